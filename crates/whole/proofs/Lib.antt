@@ -1,0 +1,12 @@
+pub mod Integers
+pub mod Ring
+pub mod Solver
+pub mod Wholes
+pub mod Linear
+pub mod Order
+pub mod Bound
+pub mod Machine
+pub mod Division
+pub mod Divisor
+pub mod Fill
+pub mod Squares

@@ -1,0 +1,5 @@
+pub mod Area
+pub mod Number
+pub mod Poly
+pub mod Quotients
+pub mod Roots

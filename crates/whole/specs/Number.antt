@@ -1,0 +1,20 @@
+-- Whole numbers, as the contracts speak of them.
+--   wholes           ℤ as coefficients of polynomials
+--   Within b x       x is at most b away from zero
+--   FirstPositive    the sign rule of two numbers
+use mathlib.Core.Path.{_≡_}
+use mathlib.Core.Logic.{_⊎_}
+use Prim.Native.Nat.{ℕ, _≤_}
+use lib.IntN.{ℤ, pos, natAbs, _+ℤ_, _*ℤ_}
+use lib.Signed.{_<ℤ_}
+use Rattle.whole.specs.Poly.{Coefficients}
+
+abbrev pub wholes : Coefficients ℤ
+wholes = record { none = pos 0; plus = _+ℤ_; times = _*ℤ_ }
+
+pub record Within (b : ℕ) (x : ℤ) : Type 0 where
+  pub size : natAbs x ≤ b
+
+-- the first that is not zero is positive
+abbrev pub FirstPositive : ℤ → ℤ → Type 0
+FirstPositive x y = (pos 0 <ℤ x) ⊎ ((x ≡ pos 0) × (pos 0 <ℤ y))

@@ -1,0 +1,142 @@
+// Whole numbers: exact and nearest quotients, square roots, common divisors, and the clearing of a lent area.
+ghost use mathlib.Core.Path.{_≡_};
+ghost use mathlib.Core.List.{_∷_, []};
+ghost use lib.IntN.{pos, natAbs};
+ghost use lib.Signed.{_<ℤ_};
+ghost use Rattle.whole.specs.Area.{Cleared};
+ghost use Rattle.whole.specs.Number.{wholes};
+ghost use Rattle.whole.specs.Poly.{Greatest};
+ghost use Rattle.whole.specs.Quotients.{Divisible, IsQuotient, Nearest};
+ghost use Rattle.whole.specs.Roots.{Above, FloorRoot, IsRoot};
+
+// A quotient that has to be whole.
+pub enum Exact {
+    Whole(i64),
+    Fraction,
+}
+
+// A root that has to be whole.
+pub enum Root {
+    Square(u64),
+    NotSquare,
+}
+
+// n / d where d divides n.
+pub fn quotient(n: i64, d: i64) -> Exact
+    requires { ⌜ Divisible n d ⌝ }
+    ensures { λ r. ⌜ IsQuotient n d r ⌝ }
+{
+    if n % d == 0 {
+        Exact::Whole(n / d)
+    } else {
+        Exact::Fraction
+    }
+}
+
+// The whole number nearest to n / d.
+pub fn nearest(n: i64, d: i64) -> i64
+    requires { ⌜ pos 0 <ℤ d ⌝ }
+    ensures { λ q. ⌜ Nearest n d q ⌝ }
+{
+    let q = n / d;
+    let r = n % d;
+    if 0 < r {
+        if d - r < r { q + 1 } else { q }
+    } else {
+        if d + r <= 0 - r { q - 1 } else { q }
+    }
+}
+
+// A power of two whose square is above n, and no larger than that asks.
+fn guess(n: u64) -> u64
+    ensures { λ r. ⌜ Above n r ⌝ }
+{
+    1u64 << ((65 - u64::leading_zeros(n)) / 2)
+}
+
+// The floor of the root by Newton's steps, each from above.
+fn floor_root(n: u64) -> u64
+    ensures { λ r. ⌜ FloorRoot n r ⌝ }
+{
+    if n == 0 {
+        return 0;
+    }
+    let mut r = guess(n);
+    let mut q = n / r;
+    while q < r {
+        r = (r + q) / 2;
+        q = n / r;
+    }
+    r
+}
+
+// The root of a square.
+pub fn square_root(n: u64) -> Root
+    ensures { λ r. ⌜ IsRoot n r ⌝ }
+{
+    let r = floor_root(n);
+    if r * r == n {
+        Root::Square(r)
+    } else {
+        Root::NotSquare
+    }
+}
+
+// How far x is from zero. The least i64 has no negative, so 1 is added on the way.
+fn size(x: i64) -> u64
+    ensures { λ r. ⌜ r ≡ natAbs x ⌝ }
+{
+    if x < 0 {
+        (0 - (x + 1)) as u64 + 1
+    } else {
+        x as u64
+    }
+}
+
+// Euclid's loop.
+fn common(a: u64, b: u64) -> u64
+    ensures { λ g. ⌜ Greatest wholes (pos a ∷ pos b ∷ []) (pos g) ⌝ }
+{
+    let mut x = a;
+    let mut y = b;
+    while y != 0 {
+        let t = x % y;
+        x = y;
+        y = t;
+    }
+    x
+}
+
+// The greatest common divisor of two numbers.
+pub fn gcd(a: i64, b: i64) -> u64
+    ensures { λ g. ⌜ Greatest wholes (a ∷ b ∷ []) (pos g) ⌝ }
+{
+    common(size(a), size(b))
+}
+
+// The greatest common divisor of a list, 0 where there is none but zeros. At 1 the rest cannot matter.
+pub fn gcd_all(numbers: &[i64]) -> u64
+    ensures { λ g. ⌜ Greatest wholes (now (numbers .entry)) (pos g) ⌝ }
+{
+    let mut g: u64 = 0;
+    let mut i = 0;
+    while i < numbers.len() {
+        if g == 1 {
+            return 1;
+        }
+        g = common(size(numbers[i]), g);
+        i += 1;
+    }
+    g
+}
+
+// Every number of the area is 0 afterwards.
+pub fn clear(area: &mut [i64])
+    ensures { λ r. ⌜ Cleared (now (area .entry)) (now (area .exit)) ⌝ }
+{
+    let mut i = 0;
+    while i < area.len() {
+        area[i] = 0;
+        i += 1;
+    }
+}
