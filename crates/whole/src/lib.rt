@@ -134,7 +134,7 @@ pub fn gcd_all(numbers: &[i64]) -> u64
 pub fn clear(area: &mut [i64])
     ensures { λ r. ⌜ Cleared (now (area .entry)) (now (area .exit)) ⌝ }
 {
-    let mut i = 0;
+    let mut i: usize = 0;
     while i < area.len() {
         area[i] = 0;
         i += 1;
