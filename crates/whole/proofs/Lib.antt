@@ -10,3 +10,4 @@ pub mod Division
 pub mod Divisor
 pub mod Fill
 pub mod Squares
+mod Examples
