@@ -8,8 +8,9 @@
 --   within k _ refl   what has been read is at most a bound
 --   abs-plus          the triangle inequality
 --   fits-within, within-fits      what a bound says of the width, and the other way
--- A need of `x * y - 3 * z`, whatever stands between, is one line, and so is what the code returns (`simp` closes an equation by itself):
---   sub-result c = bounds (hx ▸ hy ▸ hz ▸ done) (λ ρ e k. simp (e 0, e 1, e 2, readℤ, read-pos ρ, kept k) (fits k _ refl))
+-- A need of `x * y - 3 * z`, whatever stands between, is one line, and so is what the code returns (`simp` closes an equation by itself).
+-- Each literal of the code is listed by its value, as bits have literals of their own:
+--   sub-result c = bounds (hx ▸ hy ▸ hz ▸ done) (λ ρ e k. simp (e 0, e 1, e 2, readℤ, read-pos ρ 3, kept k) (fits k _ refl))
 use mathlib.Core.Path.{_≡_, sym, subst}
 use mathlib.Core.Bool.{true}
 use mathlib.Core.List.{List, [], _∷_}

@@ -38,7 +38,7 @@ twice-product a b = le-by (nonneg-square (a -ℤ b)) (atomsℤ (a ∷ b ∷ []) 
 -- Bound: the need of the difference in `x * y - 3 * z`, and what the product returns
 difference-fits : (x y z : ℤ) → Within 1000000000 x → Within 2000000000 y → Within 1000000000000000000 z
     → SFits w64 (toZ w64 (ofZ w64 (toZ w64 (ofZ w64 x) *ℤ toZ w64 (ofZ w64 y))) -ℤ toZ w64 (ofZ w64 (pos 3 *ℤ toZ w64 (ofZ w64 z))))
-difference-fits x y z hx hy hz = bounds (hx ▸ hy ▸ hz ▸ done) (λ ρ e k. simp (e 0, e 1, e 2, readℤ, read-pos ρ, kept k) (fits k _ refl))
+difference-fits x y z hx hy hz = bounds (hx ▸ hy ▸ hz ▸ done) (λ ρ e k. simp (e 0, e 1, e 2, readℤ, read-pos ρ 3, kept k) (fits k _ refl))
 
 product-is : (x y : ℤ) → Within 1000000000 x → Within 2000000000 y → toZ w64 (ofZ w64 (toZ w64 (ofZ w64 x) *ℤ toZ w64 (ofZ w64 y))) ≡ x *ℤ y
 product-is x y hx hy = bounds (hx ▸ hy ▸ done) (λ ρ e k. simp (e 0, e 1, readℤ, kept k))
