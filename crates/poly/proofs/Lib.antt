@@ -1,0 +1,15 @@
+pub mod Series
+pub mod Lists
+pub mod Value
+pub mod Domain
+pub mod Top
+pub mod Divisibility
+pub mod Gauss
+pub mod Content
+pub mod Squares
+pub mod Euclid
+pub mod Roots
+pub mod Descent
+pub mod Shift
+pub mod Wholes
+pub mod RootTwo

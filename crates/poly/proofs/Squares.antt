@@ -1,0 +1,72 @@
+-- When a polynomial is some number times a square.
+--   UnitSquare, square-primitive   c f = c′ q² with f primitive and c not 0: f = u r² with a unit u and r primitive, q = h r, and c u = c′ h²
+--   square-quotient      the same where c is the greatest common divisor of a polynomial p = c f, and p = c′ q²
+--   square-multiple      back again: f = u r² gives c f = (c u) r²
+--   primitive-squares    κ w² = κ′ w′² with w and w′ primitive and κ not 0: w² = u w′² and κ′ = κ u for a unit u
+-- So only p divided by its content has to be tried for a root, and only up to a unit.
+use mathlib.Core.Path.{_≡_, sym, ap, _∙_}
+use mathlib.Core.List.{List, []}
+use mathlib.Core.Logic.{_≢_}
+use Rattle.whole.specs.Poly.{Coefficients, Same, Greatest, scaled, square}
+use Rattle.whole.proofs.Ring.{Ring, times-none}
+use Rattle.poly.specs.Terms.{IsUnit, Primitive}
+use Rattle.poly.proofs.Lists.{at-scaled, product-none, scaled-same, scaled-scaled, square-same, square-scaled}
+use Rattle.poly.proofs.Domain.{Domain}
+use Rattle.poly.proofs.Divisibility.{Bezout}
+use Rattle.poly.proofs.Gauss.{primitive-product}
+use Rattle.poly.proofs.Content.{Associates, associates, primitive-part, primitive-multiple, quotient-primitive}
+
+module _ {A : Type 0} (C : Coefficients A) where
+  -- f = u r² and q = h r, with r primitive, where c f = c′ q²
+  pub record UnitSquare (c c′ : A) (f q : List A) : Type 0 where
+    pub unit : A
+    pub is-unit : IsUnit C unit
+    pub root : List A
+    pub root-primitive : Primitive C root
+    pub squared : Same C f (scaled C unit (square C root))
+    pub factor : A
+    pub factored : Same C (scaled C factor root) q
+    pub factors : C .times c unit ≡ C .times c′ (C .times factor factor)
+
+module _ {A : Type 0} {C : Coefficients A} (R : Ring C) where
+  pub square-multiple : (c u : A) (f r : List A) → Same C f (scaled C u (square C r)) → Same C (scaled C c f) (scaled C (C .times c u) (square C r))
+  square-multiple c u f r e k = scaled-same R c f (scaled C u (square C r)) e k ∙ scaled-scaled R c u (square C r) k
+
+module _ {A : Type 0} {C : Coefficients A} (R : Ring C) (B : Bezout C) (D : Domain C) where
+  open Coefficients C using (none as 𝟎, times as _⊗_)
+
+  infixl 70 _⊗_
+  pub primitive-squares : (κ κ′ : A) (w w′ : List A) → κ ≢ 𝟎 → Primitive C w → Primitive C w′
+      → Same C (scaled C κ (square C w)) (scaled C κ′ (square C w′)) → Associates C κ κ′ (square C w) (square C w′)
+  primitive-squares κ κ′ w w′ n u v e =
+      associates R B D κ κ′ (square C w) (square C w′) n (primitive-product R B w w u u) (primitive-product R B w′ w′ v v) e
+
+  pub square-primitive : (c c′ : A) (f q : List A) → c ≢ 𝟎 → Primitive C f → Same C (scaled C c f) (scaled C c′ (square C q)) → UnitSquare C c c′ f q
+  square-primitive c c′ f q n h e =
+      let p = primitive-part R B D q q-some in
+      let r = p .part in
+      let r² : Primitive C (square C r) = primitive-product R B r r (p .part-primitive) (p .part-primitive) in
+      let a = associates R B D c (c′ ⊗ (p .factor ⊗ p .factor)) f (square C r) n h r² (multiple (p .factor) r (p .factored)) in
+      record {
+        unit = a .unit;
+        is-unit = a .is-unit;
+        root = r;
+        root-primitive = p .part-primitive;
+        squared = a .polynomials;
+        factor = p .factor;
+        factored = p .factored;
+        factors = a .factors;
+      }
+    where
+      q-some : Same C q [] → ⊥
+      q-some z = primitive-multiple R D c f n h (λ k. e k ∙ at-scaled R c′ (square C q) k ∙ ap (λ t. c′ ⊗ t) (product-none R q q z k) ∙ times-none R c′)
+
+      multiple : (h : A) (r : List A) → Same C (scaled C h r) q → Same C (scaled C c f) (scaled C (c′ ⊗ (h ⊗ h)) (square C r))
+      multiple h r i k =
+          e k
+          ∙ scaled-same R c′ (square C q) (scaled C (h ⊗ h) (square C r)) (λ j. sym (square-same R (scaled C h r) q i j) ∙ square-scaled R h r j) k
+          ∙ scaled-scaled R c′ (h ⊗ h) (square C r) k
+
+  pub square-quotient : {p : List A} {c : A} (c′ : A) (f q : List A) → c ≢ 𝟎 → Greatest C p c
+      → Same C (scaled C c f) p → Same C p (scaled C c′ (square C q)) → UnitSquare C c c′ f q
+  square-quotient {c} c′ f q n g e h = square-primitive c c′ f q n (quotient-primitive R D f n g e) (λ k. e k ∙ h k)

@@ -1,0 +1,99 @@
+-- The theory at whole numbers.
+--   wholes-domain, wholes-euclid, wholes-bezout     ℤ has no zero divisors, division with a smaller remainder, common divisors a x + b y
+--   twice-whole-some      2 a is not 0 where a is not
+--   whole-unit, unit-whole          the units are the numbers of absolute value 1,
+--   whole-unit-sign       which are 1 and −1
+--   unit-positive         c u = d with c positive, d not negative and u a unit: u is 1
+--   WholeSquare, whole-square       p = c f, where c is p's greatest common divisor and positive: if p is c′ q² for a positive c′,
+--                         then f = r² with r primitive, q = h r and c = c′ h²
+use mathlib.Core.Path.{_≡_, refl, sym, ap, _∙_}
+use mathlib.Core.List.{List}
+use mathlib.Core.Logic.{_≢_, _⊎_, inl, inr, ⊎-elim}
+use Prim.Native.Nat.{ℕ, zero, suc, _*_}
+use native.Mathlib.Omega.{arith}
+use lib.IntN.{ℤ, pos, negsuc, natAbs, ℤ-discrete, _*ℤ_}
+use lib.Signed.{quotZ, remZ, _≤ℤ_, _<ℤ_}
+use Rattle.whole.specs.Number.{wholes}
+use Rattle.whole.specs.Poly.{Same, Divides, Greatest, scaled, square}
+use Rattle.whole.proofs.Division.{quotient-rest, rest-below}
+use Rattle.whole.proofs.Integers.{abs-times, *ℤ-domain, *ℤ-1}
+use Rattle.whole.proofs.Linear.{linear, times-parts}
+use Rattle.whole.proofs.Order.{nonneg-times, nonneg-square}
+use Rattle.whole.proofs.Wholes.{wholes-ring}
+use Rattle.poly.specs.Terms.{IsUnit, Primitive, twice}
+use Rattle.poly.proofs.Lists.{scaled-one}
+use Rattle.poly.proofs.Domain.{Domain, twice-some}
+use Rattle.poly.proofs.Divisibility.{Bezout, unit-of-one}
+use Rattle.poly.proofs.Euclid.{Euclid, euclid-bezout}
+use Rattle.poly.proofs.Squares.{square-quotient}
+
+pub wholes-domain : Domain wholes
+wholes-domain = record { splits = *ℤ-domain }
+
+abbrev pub wholes-euclid : Euclid wholes
+wholes-euclid = record {
+  zero? = λ a. ℤ-discrete a (pos 0);
+  size = natAbs;
+  divided = λ a b n. (quotZ a b, remZ a b, quotient-rest a b, rest-below a b n);
+}
+
+abbrev pub wholes-bezout : Bezout wholes
+wholes-bezout = euclid-bezout wholes-ring wholes-euclid
+
+pub twice-whole-some : (a : ℤ) → a ≢ pos 0 → twice wholes a ≢ pos 0
+twice-whole-some = twice-some wholes-ring wholes-domain (λ e. omega linear)
+
+-- ---- units
+one-of-product : (m n : ℕ) → m * n ≡ 1 → m ≡ 1
+one-of-product zero n e = absurd (omega arith)
+one-of-product (suc zero) n e = refl
+one-of-product (suc (suc m)) zero e = absurd (omega arith)
+one-of-product (suc (suc m)) (suc n) e = absurd (omega arith)
+
+pub whole-unit : {u : ℤ} → IsUnit wholes u → natAbs u ≡ 1
+whole-unit {u} h = let v = h (pos 1) in one-of-product (natAbs u) (natAbs (v .factor)) (sym (abs-times u (v .factor)) ∙ ap natAbs (v .is))
+
+pub whole-unit-sign : {u : ℤ} → IsUnit wholes u → (u ≡ pos 1) ⊎ (u ≡ negsuc 0)
+whole-unit-sign {u} h = by u (whole-unit h)
+  where
+    by : (u : ℤ) → natAbs u ≡ 1 → (u ≡ pos 1) ⊎ (u ≡ negsuc 0)
+    by (pos n) e = inl (ap pos e)
+    by (negsuc n) e = inr (ap negsuc (omega arith))
+
+pub unit-whole : (u : ℤ) → natAbs u ≡ 1 → IsUnit wholes u
+unit-whole u e = unit-of-one wholes-ring (by u e)
+  where
+    by : (u : ℤ) → natAbs u ≡ 1 → Divides wholes u (pos 1)
+    by (pos n) e = record { factor = pos 1; is = *ℤ-1 (pos n) ∙ ap pos e }
+    by (negsuc n) e = record { factor = negsuc 0; is = ap pos (omega arith) }
+
+pub unit-positive : {c u d : ℤ} → pos 0 <ℤ c → pos 0 ≤ℤ d → c *ℤ u ≡ d → IsUnit wholes u → u ≡ pos 1
+unit-positive {c} {u} {d} h k e i = ⊎-elim (λ one. one) minus (whole-unit-sign i)
+  where
+    minus : u ≡ negsuc 0 → u ≡ pos 1
+    minus z =
+        let f : c *ℤ negsuc 0 ≡ d = rw z at e in
+        absurd (omega (linear, times-parts c (negsuc 0)))
+
+-- ---- squares
+pub record WholeSquare (c c′ : ℤ) (f q : List ℤ) : Type 0 where
+  pub root : List ℤ
+  pub root-primitive : Primitive wholes root
+  pub squared : Same wholes f (square wholes root)
+  pub factor : ℤ
+  pub factored : Same wholes (scaled wholes factor root) q
+  pub factors : c ≡ c′ *ℤ (factor *ℤ factor)
+
+pub whole-square : {p : List ℤ} {c : ℤ} (c′ : ℤ) (f q : List ℤ) → pos 0 <ℤ c → pos 0 <ℤ c′ → Greatest wholes p c
+    → Same wholes (scaled wholes c f) p → Same wholes p (scaled wholes c′ (square wholes q)) → WholeSquare c c′ f q
+whole-square {c} c′ f q h h′ g e i =
+    let r = square-quotient wholes-ring wholes-bezout wholes-domain c′ f q (λ z. omega linear) g e i in
+    let one : r .unit ≡ pos 1 = unit-positive h (nonneg-times {s = c′} (omega linear) (nonneg-square (r .factor))) (r .factors) (r .is-unit) in
+    record {
+      root = r .root;
+      root-primitive = r .root-primitive;
+      squared = λ k. (rw one at (r .squared)) k ∙ scaled-one wholes-ring (square wholes (r .root)) k;
+      factor = r .factor;
+      factored = r .factored;
+      factors = sym (*ℤ-1 c) ∙ ap (λ u. c *ℤ u) (sym one) ∙ r .factors;
+    }
