@@ -8,6 +8,7 @@
 --   within k _ refl   what has been read is at most a bound
 --   abs-plus          the triangle inequality
 --   fits-within, within-fits      what a bound says of the width, and the other way
+--   read-back tt h    a number with a bound is read back from the bits of an i64
 -- A need of `x * y - 3 * z`, whatever stands between, is one line, and so is what the code returns (`simp` closes an equation by itself).
 -- Each literal of the code is listed by its value, as bits have literals of their own:
 --   sub-result c = bounds (hx ▸ hy ▸ hz ▸ done) (λ ρ e k. simp (e 0, e 1, e 2, readℤ, read-pos ρ 3, kept k) (fits k _ refl))
@@ -16,7 +17,7 @@ use mathlib.Core.Bool.{true}
 use mathlib.Core.List.{List, [], _∷_}
 use Prim.Native.Nat.{ℕ, zero, suc, _+_, _*_, _^_, _≤_, _<_, zero-le}
 use native.Mathlib.Nat.{le-refl, le-trans, le-of-eq, add-le-add, mul-le-mul}
-use lib.Dec.{leb, ltb}
+use lib.Dec.{T, leb, ltb, ltb→lt}
 use lib.IntN.{ℤ, natAbs, _+ℤ_}
 use borrow.Author.Tests.{leb-true, ltb-true}
 use mir.Syntax.{Width, w64}
@@ -70,6 +71,9 @@ val-bound {Bs} {ρ} k e = subst (λ z. natAbs z ≤ bound Bs e) (sym (val-is who
 -- ---- widths
 pub fits-within : {w : Width} {b : ℕ} {x : ℤ} → b < 2 ^ hbits w → Within b x → SFits w x
 fits-within {x} l h = omega (linear, h .size, abs-parts x)
+
+pub read-back : {b : ℕ} {x : ℤ} → T (ltb b (2 ^ 63)) → Within b x → toZ w64 (ofZ w64 x) ≡ x
+read-back {b} {x} t h = toZ-ofZ w64 x (fits-within (ltb→lt b (2 ^ 63) t) h)
 
 pub within-fits : {w : Width} {x : ℤ} → SFits w x → Within (2 ^ hbits w) x
 within-fits {x} f = record { size = omega (linear, abs-parts x, one-part x) }

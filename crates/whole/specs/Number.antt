@@ -2,7 +2,9 @@
 --   wholes           ℤ as coefficients of polynomials
 --   Within b x       x is at most b away from zero
 --   FirstPositive    the sign rule of two numbers
+--   Tells P flag     a flag that says whether P holds
 use mathlib.Core.Path.{_≡_}
+use mathlib.Core.Bool.{Bool, true, false}
 use mathlib.Core.Logic.{_⊎_}
 use Prim.Native.Nat.{ℕ, _≤_}
 use lib.IntN.{ℤ, pos, natAbs, _+ℤ_, _*ℤ_}
@@ -18,3 +20,7 @@ pub record Within (b : ℕ) (x : ℤ) : Type 0 where
 -- the first that is not zero is positive
 abbrev pub FirstPositive : ℤ → ℤ → Type 0
 FirstPositive x y = (pos 0 <ℤ x) ⊎ ((x ≡ pos 0) × (pos 0 <ℤ y))
+
+abbrev pub Tells : Type 0 → Bool → Type 0
+Tells P true = P
+Tells P false = P → ⊥
