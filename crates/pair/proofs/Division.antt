@@ -1,0 +1,196 @@
+-- Division of pairs: a / b is a conj(b) over |b|².
+--   divides-over, over-divides       b q = a, and |b|² q = a conj(b) part by part, say the same
+--   quotient-once          an exact quotient has one answer
+--   quotient-within        it is no larger than a
+--   divisor-within         a divisor of a pair other than 0 is no larger than that pair
+--   nearest-once           a nearest quotient has one answer
+--   nearest-within         it is no larger than a
+--   nearest-half           it leaves at most half over: 2 |a − q b|² ≤ |b|²
+--   rest-sum, rest-within, rest-less       what it leaves over: q b + r = a, where r is no larger than b and has a smaller norm
+use mathlib.Core.Path.{_≡_, refl, sym, ap, _∙_, subst}
+use mathlib.Core.List.{[], _∷_}
+use mathlib.Core.Logic.{_≢_, _↔_}
+use Prim.Native.Nat.{ℕ, zero, suc, _+_, _*_, _≤_, _<_}
+use native.Mathlib.Nat.{le-refl, mul-le-mul, le-of-mul-le-mul-left, le-of-mul-le-mul-right, pos-of-ne-zero}
+use native.Mathlib.Decide.{decLe}
+use native.Mathlib.Omega.{arith}
+use lib.IntN.{ℤ, pos, negℤ, natAbs, _+ℤ_, _-ℤ_, _*ℤ_, +ℤ-comm}
+use lib.Signed.{_≤ℤ_, _<ℤ_}
+use Rattle.whole.specs.Number.{Within}
+use Rattle.whole.specs.Poly.{Divides}
+use Rattle.whole.specs.Quotients.{Nearest}
+use Rattle.whole.proofs.Integers.{abs-negative, abs-times, abs-zero}
+use Rattle.whole.proofs.Ring.{times-none}
+use Rattle.whole.proofs.Wholes.{readℤ, atomsℤ, ringℤ, equal-by, zero-equal, zero-times, zero-plus, *ℤ-cancel}
+use Rattle.whole.proofs.Linear.{linear, minus-parts, times-parts, abs-parts, one-part}
+use Rattle.whole.proofs.Bound.{abs-plus}
+use Rattle.whole.proofs.Division.{nearest-close}
+use Rattle.whole.proofs.Division as whole
+use Rattle.poly.proofs.Domain.{times-cancel}
+use Rattle.pair.specs.declared.Pair.{Pair}
+use Rattle.pair.specs.declared.PairQuotient.{PairQuotient}
+use Rattle.pair.specs.declared.PairQuotient.the-variants.{Whole, None}
+use Rattle.pair.specs.Pairs.{pair, pairs, plus, minus, times, conjugate, norm, PartsWithin}
+use Rattle.pair.specs.Quotients.{IsPairQuotient, NearestPair, Rest}
+use Rattle.pair.proofs.Parts.{pair-equal}
+use Rattle.pair.proofs.Laws.{times-comm, pairs-ring, pairs-domain, root-le, norm-size, norm-nonneg, norm-zero, norm-some}
+
+-- ---- identities, for a = x + iy, b = u + iv and q = p + iq
+module _ (x y u v p q : ℤ) where
+  abbrev d : ℤ
+  d = u *ℤ u +ℤ v *ℤ v
+
+  abbrev over-re : ℤ
+  over-re = x *ℤ u -ℤ y *ℤ negℤ v
+
+  abbrev over-im : ℤ
+  over-im = x *ℤ negℤ v +ℤ y *ℤ u
+
+  -- |b|² (b q) = b (a conj(b)) = |b|² a
+  back-re : d *ℤ p ≡ over-re → d *ℤ q ≡ over-im → d *ℤ (u *ℤ p -ℤ v *ℤ q) ≡ d *ℤ x
+  back-re e f =
+      equal-by (zero-plus (zero-times u (zero-equal e)) (zero-times (negℤ v) (zero-equal f)))
+      (atomsℤ (x ∷ y ∷ u ∷ v ∷ p ∷ q ∷ []) (λ ρ e. simp (e 0, e 1, e 2, e 3, e 4, e 5, readℤ) (ringℤ ρ _ _ tt)))
+
+  back-im : d *ℤ p ≡ over-re → d *ℤ q ≡ over-im → d *ℤ (u *ℤ q +ℤ v *ℤ p) ≡ d *ℤ y
+  back-im e f =
+      equal-by (zero-plus (zero-times v (zero-equal e)) (zero-times u (zero-equal f)))
+      (atomsℤ (x ∷ y ∷ u ∷ v ∷ p ∷ q ∷ []) (λ ρ e. simp (e 0, e 1, e 2, e 3, e 4, e 5, readℤ) (ringℤ ρ _ _ tt)))
+
+  -- |a − q b|² |b|² = |a conj(b) − |b|² q|²
+  over-rest : norm (pair (x -ℤ (p *ℤ u -ℤ q *ℤ v)) (y -ℤ (p *ℤ v +ℤ q *ℤ u))) *ℤ d ≡ norm (pair (over-re -ℤ p *ℤ d) (over-im -ℤ q *ℤ d))
+  over-rest = atomsℤ (x ∷ y ∷ u ∷ v ∷ p ∷ q ∷ []) (λ ρ e. simp (e 0, e 1, e 2, e 3, e 4, e 5, readℤ) (ringℤ ρ _ _ tt))
+
+-- (b q) conj(b) = |b|² q
+there-re : (u v p q : ℤ) → (u *ℤ p -ℤ v *ℤ q) *ℤ u -ℤ (u *ℤ q +ℤ v *ℤ p) *ℤ negℤ v ≡ (u *ℤ u +ℤ v *ℤ v) *ℤ p
+there-re u v p q = atomsℤ (u ∷ v ∷ p ∷ q ∷ []) (λ ρ e. simp (e 0, e 1, e 2, e 3, readℤ) (ringℤ ρ _ _ tt))
+
+there-im : (u v p q : ℤ) → (u *ℤ p -ℤ v *ℤ q) *ℤ negℤ v +ℤ (u *ℤ q +ℤ v *ℤ p) *ℤ u ≡ (u *ℤ u +ℤ v *ℤ v) *ℤ q
+there-im u v p q = atomsℤ (u ∷ v ∷ p ∷ q ∷ []) (λ ρ e. simp (e 0, e 1, e 2, e 3, readℤ) (ringℤ ρ _ _ tt))
+
+-- ---- the parts of a conj(b) are at most B |b|², where a's are at most B
+norm-abs : (b : Pair) → natAbs (norm b) ≡ natAbs (b .re) * natAbs (b .re) + natAbs (b .im) * natAbs (b .im)
+norm-abs b = ap natAbs (norm-size b)
+
+square-above : (n : ℕ) → n ≤ n * n
+square-above zero = omega arith
+square-above (suc n) = omega arith
+
+-- |p + r| ≤ B (u² + v²), where |p| = x u and |r| = y v, and x and y are at most B
+sum-within : {B x y : ℕ} (u v : ℕ) (p r : ℤ) → natAbs p ≡ x * u → natAbs r ≡ y * v → x ≤ B → y ≤ B → Within (B * (u * u + v * v)) (p +ℤ r)
+sum-within u v p r e f h k = record { size = omega (arith, abs-plus p r, mul-le-mul h (square-above u), mul-le-mul k (square-above v)) }
+
+abs-times-negative : (y v : ℤ) → natAbs (y *ℤ negℤ v) ≡ natAbs y * natAbs v
+abs-times-negative y v = abs-times y (negℤ v) ∙ ap (λ (n : ℕ). natAbs y * n) (abs-negative v)
+
+over-within : {B : ℕ} {a : Pair} (b : Pair) → PartsWithin B a → PartsWithin (B * natAbs (norm b)) (times a (conjugate b))
+over-within {a} b h =
+    let x = a .re in
+    let y = a .im in
+    let u = b .re in
+    let v = b .im in
+    rw (norm-abs b)
+    (record {
+      re = sum-within (natAbs u) (natAbs v) (x *ℤ u) (negℤ (y *ℤ negℤ v)) (abs-times x u) (abs-negative (y *ℤ negℤ v) ∙ abs-times-negative y v) (h .re .size) (h .im .size);
+      im = rw (+ℤ-comm (x *ℤ negℤ v) (y *ℤ u)) (sum-within (natAbs u) (natAbs v) (y *ℤ u) (x *ℤ negℤ v) (abs-times y u) (abs-times-negative x v) (h .im .size) (h .re .size));
+    })
+
+-- ---- exact quotients
+pub divides-over : (a b q : Pair) → times b q ≡ a → (norm b *ℤ q .re ≡ times a (conjugate b) .re) × (norm b *ℤ q .im ≡ times a (conjugate b) .im)
+divides-over a b q e = (
+  sym (there-re (b .re) (b .im) (q .re) (q .im)) ∙ ap (λ z. times z (conjugate b) .re) e,
+  sym (there-im (b .re) (b .im) (q .re) (q .im)) ∙ ap (λ z. times z (conjugate b) .im) e,
+)
+
+pub over-divides : (a b q : Pair) → b ≢ pairs .none → norm b *ℤ q .re ≡ times a (conjugate b) .re → norm b *ℤ q .im ≡ times a (conjugate b) .im → times b q ≡ a
+over-divides a b q h e f =
+    pair-equal
+    (*ℤ-cancel (norm b) (λ z. h (norm-zero b z)) (back-re (a .re) (a .im) (b .re) (b .im) (q .re) (q .im) e f))
+    (*ℤ-cancel (norm b) (λ z. h (norm-zero b z)) (back-im (a .re) (a .im) (b .re) (b .im) (q .re) (q .im) e f))
+
+pub quotient-once : (a b : Pair) → b ≢ pairs .none → (r s : PairQuotient) → IsPairQuotient a b r → IsPairQuotient a b s → r ≡ s
+quotient-once a b h (Whole p) (Whole q) e f = ap Whole (times-cancel pairs-ring pairs-domain b p q h (e ∙ sym f))
+quotient-once a b h (Whole p) None e f = absurd (f (record { factor = p; is = e }))
+quotient-once a b h None (Whole q) e f = absurd (e (record { factor = q; is = f }))
+quotient-once a b h None None e f = refl
+
+pub quotient-within : {B : ℕ} {a : Pair} (b q : Pair) → PartsWithin B a → b ≢ pairs .none → times b q ≡ a → PartsWithin B q
+quotient-within {B} {a} b q h n e =
+    let o = over-within b h in
+    let f = divides-over a b q e in
+    record { re = part (q .re) (rw (f .0) (o .re)); im = part (q .im) (rw (f .1) (o .im)) }
+  where
+    part : (x : ℤ) → Within (B * natAbs (norm b)) (norm b *ℤ x) → Within B x
+    part x k = record { size = le-of-mul-le-mul-left (omega (arith, k .size, abs-times (norm b) x)) (pos-of-ne-zero (λ z. n (norm-zero b (abs-zero (norm b) z)))) }
+
+pub divisor-within : {B : ℕ} {d a : Pair} → PartsWithin B a → a ≢ pairs .none → Divides pairs d a → PartsWithin B d
+divisor-within {d} h n k = quotient-within (k .factor) d h (λ z. n (sym (k .is) ∙ ap (times d) z ∙ times-none pairs-ring d)) (times-comm (k .factor) d ∙ k .is)
+
+-- ---- nearest quotients
+pub nearest-once : (a b p q : Pair) → NearestPair a b p → NearestPair a b q → p ≡ q
+nearest-once a b p q h k =
+    pair-equal (whole.nearest-once _ _ (p .re) (q .re) (h .re) (k .re)) (whole.nearest-once _ _ (p .im) (q .im) (h .im) (k .im))
+
+-- |q| ≤ B, where q is nearest to x / d and |x| ≤ B d
+part-within : {B : ℕ} {x d q : ℤ} → pos 0 <ℤ d → Within (B * natAbs d) x → Nearest x d q → Within B q
+part-within {B} {x} {d} {q} p h k = record { size = by (decLe (natAbs q) B) }
+  where
+    product : natAbs q * natAbs d ≤ natAbs x + natAbs (x -ℤ q *ℤ d)
+    product =
+        let t = q *ℤ d in
+        omega (linear, abs-times q d, minus-parts x t, abs-parts x, abs-parts t, abs-parts (x -ℤ t), one-part t)
+
+    by : Dec (natAbs q ≤ B) → natAbs q ≤ B
+    by (yes l) = l
+    by (no l) =
+        let m : suc B ≤ natAbs q = omega arith in
+        absurd (omega (linear, h .size, product, nearest-close k, mul-le-mul m (le-refl (natAbs d)), abs-parts d))
+
+pub nearest-within : {B : ℕ} {a b q : Pair} → PartsWithin B a → b ≢ pairs .none → NearestPair a b q → PartsWithin B q
+nearest-within {b} h n k =
+    let o = over-within b h in
+    record { re = part-within (norm-some b n) (o .re) (k .re); im = part-within (norm-some b n) (o .im) (k .im) }
+
+-- n d = x² + y², where 2 x and 2 y are at most d
+half : (n d x y : ℕ) → 0 < d → 2 * x ≤ d → 2 * y ≤ d → n * d ≡ x * x + y * y → 2 * n ≤ d
+half n d x y z h k e = le-of-mul-le-mul-right (omega (arith, mul-le-mul h h, mul-le-mul k k)) z
+
+half-size : (r b : Pair) → (2 * natAbs (norm r) ≤ natAbs (norm b)) ↔ ((pos 2 *ℤ norm r) ≤ℤ norm b)
+half-size r b = by (norm r) (norm b) (norm-nonneg r) (norm-nonneg b)
+  where
+    by : (m n : ℤ) → pos 0 ≤ℤ m → pos 0 ≤ℤ n → (2 * natAbs m ≤ natAbs n) ↔ ((pos 2 *ℤ m) ≤ℤ n)
+    by m n u v = (
+      λ h. omega (linear, times-parts (pos 2) m, abs-parts m, abs-parts n, one-part m, one-part n),
+      λ h. omega (linear, times-parts (pos 2) m, abs-parts m, abs-parts n, one-part m, one-part n),
+    )
+
+pub nearest-half : {a b q : Pair} → b ≢ pairs .none → NearestPair a b q → (pos 2 *ℤ norm (minus a (times q b))) ≤ℤ norm b
+nearest-half {a} {b} {q} n k =
+    half-size r b .0
+    (half (natAbs (norm r)) (natAbs (norm b)) _ _ (let h = norm-some b n in omega (linear, abs-parts (norm b))) (nearest-close (k .re)) (nearest-close (k .im))
+    (sym (abs-times (norm r) (norm b)) ∙ ap natAbs (over-rest (a .re) (a .im) (b .re) (b .im) (q .re) (q .im)) ∙ norm-abs left))
+  where
+    r : Pair
+    r = minus a (times q b)
+
+    left : Pair
+    left = pair (times a (conjugate b) .re -ℤ q .re *ℤ norm b) (times a (conjugate b) .im -ℤ q .im *ℤ norm b)
+
+-- ---- what a nearest quotient leaves over
+pub rest-sum : {a b r : Pair} (h : Rest a b r) → plus (times (h .quotient) b) r ≡ a
+rest-sum {a} {b} h = let t = times (h .quotient) b in ap (plus t) (sym (h .is)) ∙ pair-equal (back (t .re) (a .re)) (back (t .im) (a .im))
+  where
+    back : (t x : ℤ) → t +ℤ (x -ℤ t) ≡ x
+    back t x = atomsℤ (t ∷ x ∷ []) (λ ρ e. simp (e 0, e 1, readℤ) (ringℤ ρ _ _ tt))
+
+rest-half : {a b r : Pair} → b ≢ pairs .none → Rest a b r → 2 * natAbs (norm r) ≤ natAbs (norm b)
+rest-half {b} {r} n h = half-size r b .1 (subst (λ r. (pos 2 *ℤ norm r) ≤ℤ norm b) (h .is) (nearest-half n (h .nearest)))
+
+-- |r|² ≤ |b|² / 2 ≤ B²
+pub rest-within : {B : ℕ} {a b r : Pair} → PartsWithin B b → b ≢ pairs .none → Rest a b r → PartsWithin B r
+rest-within {B} {b} {r} k n h =
+    let l : natAbs (norm r) ≤ B * B = omega (arith, rest-half n h, norm-abs b, mul-le-mul (k .re .size) (k .re .size), mul-le-mul (k .im .size) (k .im .size)) in
+    record { re = record { size = root-le (natAbs (r .re)) B (omega (arith, norm-abs r)) }; im = record { size = root-le (natAbs (r .im)) B (omega (arith, norm-abs r)) } }
+
+pub rest-less : {a b r : Pair} → b ≢ pairs .none → Rest a b r → natAbs (norm r) < natAbs (norm b)
+rest-less {b} n h = let p = norm-some b n in omega (linear, rest-half n h, abs-parts (norm b))

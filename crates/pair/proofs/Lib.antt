@@ -1,0 +1,8 @@
+pub mod Parts
+pub mod Laws
+pub mod Division
+pub mod Divisors
+pub mod Roots
+pub mod Euclid
+pub mod Units
+pub mod Squares

@@ -1,0 +1,62 @@
+-- `pair::gcd` meets its contract. The invariant: x and y have the common divisors of a and b, and stay as small. The norm of y falls.
+use mathlib.Core.Path.{_≡_, sym, ap, _∙_, subst}
+use mathlib.Core.Logic.{_≢_, _↔_, Iff·rfl, Iff·symm, Iff·trans}
+use Prim.Native.Nat.{_^_}
+use lib.IntN.{natAbs}
+use mir.Facts.{sfits-lit}
+use mir.Syntax.{w64}
+use mir.Val.{ofZ}
+use Rattle.whole.specs.Poly.{Divides}
+use Rattle.whole.proofs.Divisor.{divides-none, common-two, greatest-is, division-common}
+use Rattle.whole.proofs.Machine.{same-bits}
+use Rattle.pair.specs.declared.Pair.{Pair}
+use Rattle.pair.specs.Pairs.{pairs, norm, PartsWithin}
+use Rattle.pair.proofs.Laws.{pairs-ring, norm-zero}
+use Rattle.pair.proofs.Division.{rest-sum, rest-within, rest-less}
+use Rattle.pair.proofs.gcd.Statement.{statement}
+use Rattle.pair.proofs.gcd.Tie as tie
+
+abbrev Both : Pair → Pair → Pair → Type 0
+Both d x y = Divides pairs d x × Divides pairs d y
+
+abbrev Inv-loop : tie.InvT-loop
+Inv-loop a b x y = PartsWithin (2 ^ 30) x × PartsWithin (2 ^ 30) y × ((d : Pair) → Both d x y ↔ Both d a b)
+
+abbrev μ-loop : tie.MeasureT-loop
+μ-loop a b x y = natAbs (norm y)
+
+loop-holds : tie.Need-loop-holds Inv-loop μ-loop
+loop-holds c = (c .pre .0, c .pre .1, λ d. Iff·rfl)
+
+norm-requires : tie.Need-norm-requires Inv-loop μ-loop
+norm-requires c κs = c .loop .inv .1
+
+some : (c : tie.Then1 Inv-loop μ-loop) → c .before .before .loop .y ≢ pairs .none
+some c e = c .if1 .taken (ap (ofZ w64) (c .before .norm .ensures ∙ ap norm e))
+
+rest-requires : tie.Need-rest-requires Inv-loop μ-loop
+rest-requires c κs = let l = c .before .before .loop in (l .inv .0, l .inv .1, some c)
+
+loop-less : tie.Need-loop-less Inv-loop μ-loop
+loop-less c = rest-less (some (c .before)) (c .rest .ensures)
+
+loop-again : tie.Need-loop-again Inv-loop μ-loop
+loop-again c =
+    let i = c .before .before .before .loop .inv in
+    (i .1, rest-within (i .1) (some (c .before)) (c .rest .ensures), λ d. Iff·trans (division-common pairs-ring {q = c .rest .ensures .quotient} (rest-sum (c .rest .ensures)) d) (i .2 d))
+
+-- d divides x just where it divides x and 0
+with-zero : (d x y : Pair) → y ≡ pairs .none → Divides pairs d x ↔ Both d x y
+with-zero d x y e = (λ h. (h, subst (Divides pairs d) (sym e) (divides-none pairs-ring d)), λ h. h .0)
+
+returns : tie.Need-returns Inv-loop μ-loop
+returns c =
+    let l = c .before .before .loop in
+    let s = c .before .before .before .args in
+    let z : l .y ≡ pairs .none = norm-zero (l .y) (sym (c .before .norm .ensures) ∙ same-bits (record { sfits = c .before .norm .ok }) (sfits-lit tt) (c .if1 .left)) in
+    greatest-is pairs-ring (λ d. Iff·trans (with-zero d (l .x) (l .y) z) (Iff·trans (l .inv .2 d) (Iff·symm (common-two pairs-ring d (s .a) (s .b)))))
+
+pub gcd-spec : {M : Type 1} → statement M
+gcd-spec =
+    tie.close
+    (tie.spec Inv-loop μ-loop loop-holds norm-requires rest-requires loop-less loop-again returns)

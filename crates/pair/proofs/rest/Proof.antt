@@ -1,0 +1,33 @@
+-- `pair::rest` meets its contract.
+use mathlib.Core.Path.{sym, ap, _∙_}
+use Prim.Native.Nat.{_^_}
+use lib.Dec.{lit≤}
+use Rattle.pair.specs.Pairs.{minus, PartsWithin}
+use Rattle.pair.proofs.Parts.{wider, times-within}
+use Rattle.pair.proofs.Division.{nearest-within}
+use Rattle.pair.proofs.rest.Statement.{statement}
+use Rattle.pair.proofs.rest.Tie as tie
+
+nearest-requires : tie.Need-nearest-requires
+nearest-requires c κs = c .pre
+
+small : (c : tie.After-nearest) → PartsWithin (2 ^ 30) (c .nearest .result)
+small c = let h = c .before .pre in nearest-within (h .0) (h .2) (c .nearest .ensures)
+
+product-requires : tie.Need-product-requires
+product-requires c κs = (small c, c .before .pre .1)
+
+difference-requires : tie.Need-difference-requires
+difference-requires c κs = let h = c .before .before .pre in (wider (lit≤ tt) (h .0), rw (c .product .ensures) (times-within (small (c .before)) (h .1)))
+
+returns : tie.Need-returns
+returns c =
+    let s = c .before .before .before .args in
+    record {
+      quotient = c .before .before .nearest .result;
+      nearest = c .before .before .nearest .ensures;
+      is = sym (c .difference .ensures ∙ ap (minus (s .a)) (c .before .product .ensures));
+    }
+
+pub rest-spec : {M : Type 1} → statement M
+rest-spec = tie.close (tie.spec nearest-requires product-requires difference-requires returns)

@@ -1,0 +1,298 @@
+// Pairs: complex numbers with whole parts. Their sums and products, quotients, greatest common divisors and square roots.
+// What is multiplied has parts of at most 2^30 in size, so that the parts of a product, and a norm, are at most 2^61. What is only added,
+// taken away or turned may be as large as a product.
+ghost use mathlib.Core.Path.{_≡_};
+ghost use mathlib.Core.List.{_∷_, []};
+ghost use mathlib.Core.Logic.{_≢_};
+ghost use Prim.Native.Nat.{_*_, _^_};
+ghost use lib.IntN.{pos, natAbs};
+ghost use lib.Signed.{_≤ℤ_};
+ghost use Rattle.whole.specs.Number.{Tells, Within};
+ghost use Rattle.whole.specs.Poly.{Greatest};
+ghost use Rattle.pair.specs.Pairs.{pairs, PartsWithin, AllWithin};
+ghost use Rattle.pair.specs.Pairs.{plus, minus, negative, times, multiple, conjugate, norm, imaginary};
+ghost use Rattle.pair.specs.Quotients.{IsPairQuotient, NearestPair, Rest};
+ghost use Rattle.pair.specs.Roots.{HalfRoot, Candidate, IsPairRoot};
+
+pub struct Pair {
+    pub re: i64,
+    pub im: i64,
+}
+
+// A quotient that has to be a pair.
+pub enum PairQuotient {
+    Whole(Pair),
+    None,
+}
+
+// A root that has to be a pair.
+pub enum PairRoot {
+    Root(Pair),
+    None,
+}
+
+pub fn sum(a: Pair, b: Pair) -> Pair
+    requires { ⌜ PartsWithin (2 ^ 61) a × PartsWithin (2 ^ 61) b ⌝ }
+    ensures { λ r. ⌜ r ≡ plus a b ⌝ }
+{
+    let x = a.re;
+    let y = a.im;
+    let u = b.re;
+    let v = b.im;
+    Pair {
+        re: x + u,
+        im: y + v,
+    }
+}
+
+pub fn difference(a: Pair, b: Pair) -> Pair
+    requires { ⌜ PartsWithin (2 ^ 61) a × PartsWithin (2 ^ 61) b ⌝ }
+    ensures { λ r. ⌜ r ≡ minus a b ⌝ }
+{
+    let x = a.re;
+    let y = a.im;
+    let u = b.re;
+    let v = b.im;
+    Pair {
+        re: x - u,
+        im: y - v,
+    }
+}
+
+pub fn negative(a: Pair) -> Pair
+    requires { ⌜ PartsWithin (2 ^ 61) a ⌝ }
+    ensures { λ r. ⌜ r ≡ negative a ⌝ }
+{
+    let x = a.re;
+    let y = a.im;
+    Pair { re: -x, im: -y }
+}
+
+// i a
+pub fn turned(a: Pair) -> Pair
+    requires { ⌜ PartsWithin (2 ^ 61) a ⌝ }
+    ensures { λ r. ⌜ r ≡ times imaginary a ⌝ }
+{
+    let x = a.re;
+    let y = a.im;
+    Pair { re: -y, im: x }
+}
+
+pub fn product(a: Pair, b: Pair) -> Pair
+    requires { ⌜ PartsWithin (2 ^ 30) a × PartsWithin (2 ^ 30) b ⌝ }
+    ensures { λ r. ⌜ r ≡ times a b ⌝ }
+{
+    let x = a.re;
+    let y = a.im;
+    let u = b.re;
+    let v = b.im;
+    Pair {
+        re: x * u - y * v,
+        im: x * v + y * u,
+    }
+}
+
+pub fn multiple(k: i64, a: Pair) -> Pair
+    requires { ⌜ Within (2 ^ 30) k × PartsWithin (2 ^ 30) a ⌝ }
+    ensures { λ r. ⌜ r ≡ multiple k a ⌝ }
+{
+    let x = a.re;
+    let y = a.im;
+    Pair {
+        re: k * x,
+        im: k * y,
+    }
+}
+
+pub fn conjugate(a: Pair) -> Pair
+    requires { ⌜ PartsWithin (2 ^ 61) a ⌝ }
+    ensures { λ r. ⌜ r ≡ conjugate a ⌝ }
+{
+    let x = a.re;
+    let y = a.im;
+    Pair { re: x, im: -y }
+}
+
+pub fn norm(a: Pair) -> i64
+    requires { ⌜ PartsWithin (2 ^ 30) a ⌝ }
+    ensures { λ r. ⌜ r ≡ norm a ⌝ }
+{
+    let x = a.re;
+    let y = a.im;
+    x * x + y * y
+}
+
+// a conj(b), whose parts over |b|² are those of a / b.
+fn numerator(a: Pair, b: Pair) -> Pair
+    requires { ⌜ PartsWithin (2 ^ 30) a × PartsWithin (2 ^ 30) b ⌝ }
+    ensures { λ r. ⌜ r ≡ times a (conjugate b) ⌝ }
+{
+    product(a, conjugate(b))
+}
+
+// a / b where b divides a.
+pub fn quotient(a: Pair, b: Pair) -> PairQuotient
+    requires { ⌜ PartsWithin (2 ^ 30) a × PartsWithin (2 ^ 30) b × (b ≢ pairs .none) ⌝ }
+    ensures { λ r. ⌜ IsPairQuotient a b r ⌝ }
+{
+    let n = numerator(a, b);
+    let d = norm(b);
+    let x = n.re;
+    let y = n.im;
+    let whole::Exact::Whole(u) = whole::quotient(x, d) else {
+        return PairQuotient::None;
+    };
+    let whole::Exact::Whole(v) = whole::quotient(y, d) else {
+        return PairQuotient::None;
+    };
+    PairQuotient::Whole(Pair { re: u, im: v })
+}
+
+// The pair nearest to a / b, part by part.
+pub fn nearest(a: Pair, b: Pair) -> Pair
+    requires { ⌜ PartsWithin (2 ^ 30) a × PartsWithin (2 ^ 30) b × (b ≢ pairs .none) ⌝ }
+    ensures { λ q. ⌜ NearestPair a b q ⌝ }
+{
+    let n = numerator(a, b);
+    let d = norm(b);
+    let x = n.re;
+    let y = n.im;
+    Pair {
+        re: whole::nearest(x, d),
+        im: whole::nearest(y, d),
+    }
+}
+
+// What is left of a over b.
+fn rest(a: Pair, b: Pair) -> Pair
+    requires { ⌜ PartsWithin (2 ^ 30) a × PartsWithin (2 ^ 30) b × (b ≢ pairs .none) ⌝ }
+    ensures { λ r. ⌜ Rest a b r ⌝ }
+{
+    difference(a, product(nearest(a, b), b))
+}
+
+// The greatest common divisor of two pairs, by Euclid's loop.
+pub fn gcd(a: Pair, b: Pair) -> Pair
+    requires { ⌜ PartsWithin (2 ^ 30) a × PartsWithin (2 ^ 30) b ⌝ }
+    ensures { λ g. ⌜ Greatest pairs (a ∷ b ∷ []) g ⌝ }
+{
+    let mut x = a;
+    let mut y = b;
+    while norm(y) != 0 {
+        let r = rest(x, y);
+        x = y;
+        y = r;
+    }
+    x
+}
+
+// The greatest common divisor of five pairs, 0 where there is none but zeros.
+pub fn gcd_all(ps: [Pair; 5]) -> Pair
+    requires { ⌜ AllWithin (2 ^ 30) ps ⌝ }
+    ensures { λ g. ⌜ Greatest pairs ps g ⌝ }
+{
+    let mut g = Pair { re: 0, im: 0 };
+    let mut i: usize = 0;
+    while i < 5 {
+        let p = ps[i];
+        g = gcd(p, g);
+        i += 1;
+    }
+    g
+}
+
+// The root of the half of s, and 0 where that is no square.
+fn half_root(s: i64) -> i64
+    requires { ⌜ (pos 0 ≤ℤ s) × Within (2 ^ 32) s ⌝ }
+    ensures { λ r. ⌜ HalfRoot s r ⌝ }
+{
+    match whole::square_root(s as u64 / 2) {
+        whole::Root::Square(r) => r as i64,
+        whole::Root::NotSquare => 0,
+    }
+}
+
+// A root of z, if it has one: a root u + iv has u² + v² = |z| = n and u² − v² = x.
+fn candidate(z: Pair, n: u64) -> Pair
+    requires { ⌜ PartsWithin (2 ^ 30) z × (pos (n * n) ≡ norm z) ⌝ }
+    ensures { λ w. ⌜ Candidate z w ⌝ }
+{
+    let x = z.re;
+    let y = z.im;
+    let m = n as i64;
+    let u = half_root(m + x);
+    let v = half_root(m - x);
+    if y < 0 {
+        Pair { re: u, im: -v }
+    } else {
+        Pair { re: u, im: v }
+    }
+}
+
+// w, if it is a root of z.
+fn kept(z: Pair, w: Pair) -> PairRoot
+    requires { ⌜ Candidate z w ⌝ }
+    ensures { λ r. ⌜ IsPairRoot z r ⌝ }
+{
+    let s = product(w, w);
+    let p = s.re;
+    let q = s.im;
+    let x = z.re;
+    let y = z.im;
+    if p != x {
+        return PairRoot::None;
+    }
+    if q != y {
+        return PairRoot::None;
+    }
+    PairRoot::Root(w)
+}
+
+// The square root of a pair. A square has a whole size |z|, so most pairs that are none are refused by the first root.
+pub fn root(z: Pair) -> PairRoot
+    requires { ⌜ PartsWithin (2 ^ 30) z ⌝ }
+    ensures { λ r. ⌜ IsPairRoot z r ⌝ }
+{
+    match whole::square_root(norm(z) as u64) {
+        whole::Root::Square(n) => kept(z, candidate(z, n)),
+        whole::Root::NotSquare => PairRoot::None,
+    }
+}
+
+// Whether a pair is 0.
+pub fn is_zero(p: Pair) -> bool
+    ensures { λ r. ⌜ Tells (p ≡ pairs .none) r ⌝ }
+{
+    let x = p.re;
+    let y = p.im;
+    if x != 0 {
+        return false;
+    }
+    if y != 0 {
+        return false;
+    }
+    true
+}
+
+// Whether both parts are at most `bound` away from zero.
+pub fn within(p: Pair, bound: i64) -> bool
+    requires { ⌜ pos 0 ≤ℤ bound ⌝ }
+    ensures { λ r. ⌜ Tells (PartsWithin (natAbs bound) p) r ⌝ }
+{
+    let x = p.re;
+    let y = p.im;
+    let least = 0 - bound;
+    if x < least {
+        return false;
+    }
+    if bound < x {
+        return false;
+    }
+    if y < least {
+        return false;
+    }
+    if bound < y {
+        return false;
+    }
+    true
+}
