@@ -5,4 +5,3 @@ pub mod Divisors
 pub mod Roots
 pub mod Euclid
 pub mod Units
-pub mod Squares

@@ -8,6 +8,7 @@
 --   primitive-greatest   the greatest common divisor of c f is c, where f is primitive and c not 0
 --   greatest-same, primitive-same        both say something of a polynomial, however it is written
 --   primitive-scaled     a unit times a primitive polynomial is primitive
+--   primitive-factor     a factor of a primitive polynomial is primitive
 --   primitive-multiple   a primitive polynomial times a number other than 0 is not 0
 --   Associates, associates               a f = b g with f and g primitive and a not 0 gives f = u g and b = a u with a unit u
 use mathlib.Core.Path.{_≡_, refl, sym, ap, _∙_}
@@ -15,11 +16,11 @@ use mathlib.Core.List.{List, [], _∷_}
 use mathlib.Core.Logic.{_≢_}
 use Prim.Native.Nat.{zero, suc}
 use lib.IntN.{pos}
-use Rattle.whole.specs.Poly.{Coefficients, at, Same, Divides, Greatest, scaled}
+use Rattle.whole.specs.Poly.{Coefficients, at, Same, Divides, Greatest, scaled, product}
 use Rattle.whole.proofs.Divisor.{divides-none, divides-trans, common-cons}
 use Rattle.whole.proofs.Ring.{Ring, none-times, times-none}
 use Rattle.poly.specs.Terms.{Throughout, IsUnit, Primitive}
-use Rattle.poly.proofs.Lists.{at-scaled}
+use Rattle.poly.proofs.Lists.{at-scaled, product-same, scaled-product, none-scaled}
 use Rattle.poly.proofs.Domain.{Domain, times-cancel}
 use Rattle.poly.proofs.Divisibility.{Bezout, divides-times, divides-common, unit-of-one}
 
@@ -63,6 +64,14 @@ module _ {A : Type 0} {C : Coefficients A} (R : Ring C) where
 
   divides-scaled : (c : A) (f p : List A) → Same C (scaled C c f) p → Throughout C c (at C p)
   divides-scaled c f p e k = record { factor = at C f k; is = sym (at-scaled R c f k) ∙ e k }
+
+  divides-product : (d : A) (p q : List A) → Throughout C d (at C p) → Throughout C d (at C (product C p q))
+  divides-product d p q h =
+      let (f, e) = quotients d p h in
+      divides-scaled d (product C f q) (product C p q) (λ k. sym (scaled-product R d f q k) ∙ product-same R (scaled C d f) p q q e (λ j. refl) k)
+
+  pub primitive-factor : (p q : List A) → Primitive C (product C p q) → Primitive C p
+  primitive-factor p q h d u = h d (divides-product d p q u)
 
   pub greatest-some : {p : List A} {c : A} → Greatest C p c → (Same C p [] → ⊥) → c ≢ 𝟎
   greatest-some g n z = n (λ k. sym (g .divides k .is) ∙ ap (λ t. t ⊗ g .divides k .factor) z ∙ none-times R _)
@@ -169,7 +178,7 @@ module _ {A : Type 0} {C : Coefficients A} (R : Ring C) (B : Bezout C) (D : Doma
       record { unit = x; is-unit = i; polynomials = polynomials x w; factors = w }
     where
       b-some : b ≢ 𝟎
-      b-some z = primitive-multiple R D a f n u (λ k. e k ∙ at-scaled R b g k ∙ ap (λ t. t ⊗ at C g k) z ∙ none-times R _)
+      b-some z = primitive-multiple R D a f n u (λ k. e k ∙ none-scaled R b g z k)
 
       polynomials : (x : A) → a ⊗ x ≡ b → Same C f (scaled C x g)
       polynomials x w k =

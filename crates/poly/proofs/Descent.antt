@@ -22,6 +22,7 @@ use Rattle.whole.proofs.Ring.{Ring}
 use Rattle.poly.specs.Terms.{Above, Top, RootAt, twice}
 use Rattle.poly.proofs.Lists.{square-same}
 use Rattle.poly.proofs.Domain.{Domain, times-cancel}
+use Rattle.poly.proofs.Top.{length-above}
 use Rattle.poly.proofs.Roots.{between, root-coefficient, root-signed}
 
 module _ {A : Type 0} {C : Coefficients A} (R : Ring C) (M : List A) (L : ℕ) (s : A) where
@@ -40,8 +41,7 @@ module _ {A : Type 0} {C : Coefficients A} (R : Ring C) {M : List A} {L : ℕ} {
   lead-at (down x d e) = lead-at d
 
   above-at : {k n : ℕ} {p : List A} → Descent R M L s k n p → Above C (at C p) n
-  above-at start zero h = absurd (omega arith)
-  above-at start (suc k) h = refl
+  above-at start k h = length-above C (s ∷ []) zero (omega arith) k h
   above-at (down x d e) zero h = absurd (omega arith)
   above-at (down x d e) (suc k) h = above-at d k (omega arith)
 

@@ -3,6 +3,9 @@ pub mod Lists
 pub mod Value
 pub mod Domain
 pub mod Top
+pub mod Forms
+pub mod Binomials
+pub mod Blends
 pub mod Divisibility
 pub mod Gauss
 pub mod Content

@@ -5,13 +5,16 @@
 --   sum-same, scaled-same, product-same, square-same     each operation keeps `Same`
 --   sum-comm, sum-assoc, product-comm, product-assoc, product-sum, product-none, product-one     the ring of polynomials
 --   scaled-one, scaled-scaled, scaled-sum, scaled-product, square-scaled     multiples: (a p)² = a² p²
+--   scaled-none, none-scaled               a multiple of 0, and by 0, is 0
+--   scaled-is-product                      a multiple is a product with a constant
+--   at-opposite, square-opposite           a coefficient of (−1) p is the negative; (−1) p has the square of p
 --   of-difference                          p + (−1) q as a series
 use mathlib.Core.Path.{_≡_, refl, sym, ap, ap₂, _∙_, fun-ext}
 use mathlib.Core.List.{List, [], _∷_}
 use Prim.Native.Nat.{ℕ, zero, suc}
 use lib.IntN.{pos, negsuc}
 use Rattle.whole.specs.Poly.{Coefficients, at, Same, sum, scaled, product, square}
-use Rattle.whole.proofs.Ring.{Ring, times-none, none-plus, minus-one}
+use Rattle.whole.proofs.Ring.{Ring, times-none, none-times, none-plus, minus-one}
 use Rattle.poly.proofs.Series.{conv, conv-none, conv-comm, conv-assoc, conv-plus, conv-constant, scaled-conv}
 
 module _ {A : Type 0} (C : Coefficients A) where
@@ -52,8 +55,11 @@ module _ {A : Type 0} {C : Coefficients A} (R : Ring C) where
   pub of-product : (p q : List A) → at C (product C p q) ≡ conv C (at C p) (at C q)
   of-product p q = fun-ext (at-product p q)
 
+  pub at-opposite : (p : List A) (k : ℕ) → at C (scaled C (R .number (negsuc 0)) p) k ≡ R .negative (at C p k)
+  at-opposite p k = at-scaled _ p k ∙ minus-one R (at C p k)
+
   pub of-difference : (p q : List A) → at C (sum C p (scaled C (R .number (negsuc 0)) q)) ≡ (λ k. at C p k ⊕ R .negative (at C q k))
-  of-difference p q = fun-ext (λ k. at-sum p _ k ∙ ap (λ x. at C p k ⊕ x) (at-scaled _ q k ∙ minus-one R (at C q k)))
+  of-difference p q = fun-ext (λ k. at-sum p _ k ∙ ap (λ x. at C p k ⊕ x) (at-opposite q k))
 
   -- ---- the operations keep Same
   pub sum-same : (p p′ q q′ : List A) → Same C p p′ → Same C q q′ → Same C (sum C p q) (sum C p′ q′)
@@ -95,6 +101,15 @@ module _ {A : Type 0} {C : Coefficients A} (R : Ring C) where
   pub scaled-one : (p : List A) → Same C (scaled C (R .number (pos 1)) p) p
   scaled-one p k = at-scaled _ p k ∙ R .times-comm _ _ ∙ R .times-one _
 
+  pub scaled-none : (a : A) (p : List A) → Same C p [] → Same C (scaled C a p) []
+  scaled-none a p z k = at-scaled a p k ∙ ap (λ x. a ⊗ x) (z k) ∙ times-none R a
+
+  pub none-scaled : (a : A) (p : List A) → a ≡ 𝟎 → Same C (scaled C a p) []
+  none-scaled a p z k = at-scaled a p k ∙ ap (λ x. x ⊗ at C p k) z ∙ none-times R _
+
+  pub scaled-is-product : (a : A) (p : List A) → Same C (scaled C a p) (product C (a ∷ []) p)
+  scaled-is-product a p k = at-scaled a p k ∙ sym (at-product (a ∷ []) p k ∙ conv-constant R a (at C p) k)
+
   pub scaled-scaled : (a b : A) (p : List A) → Same C (scaled C a (scaled C b p)) (scaled C (a ⊗ b) p)
   scaled-scaled a b p k = simp at-scaled (sym (R .times-assoc _ _ _))
 
@@ -109,3 +124,9 @@ module _ {A : Type 0} {C : Coefficients A} (R : Ring C) where
       scaled-product a p (scaled C a p) k
       ∙ scaled-same a (product C p (scaled C a p)) (scaled C a (square C p)) (λ i. product-comm p (scaled C a p) i ∙ scaled-product a p p i) k
       ∙ scaled-scaled a a (square C p) k
+
+  pub square-opposite : (p : List A) → Same C (square C (scaled C (R .number (negsuc 0)) p)) (square C p)
+  square-opposite p k =
+      square-scaled (R .number (negsuc 0)) p k
+      ∙ ap (λ a. at C (scaled C a (square C p)) k) (sym (R .number-times (negsuc 0) (negsuc 0)))
+      ∙ scaled-one (square C p) k

@@ -15,13 +15,13 @@ use native.Mathlib.Nat.{suc-add, zero-add, add-zero, add-suc}
 use native.Mathlib.Omega.{arith}
 use lib.IntN.{negsuc}
 use Rattle.whole.specs.Poly.{Coefficients, at, Same, scaled, square}
-use Rattle.whole.proofs.Ring.{Ring, none-plus, times-none, minus-one}
+use Rattle.whole.proofs.Ring.{Ring, none-plus}
 use Rattle.whole.proofs.Solver.{atoms, ring, read, read-none, read-lit⁻}
 use Rattle.poly.specs.Terms.{Above, Top, RootAt, twice}
 use Rattle.poly.proofs.Series.{Series, tail, conv, conv-suc, conv-last}
-use Rattle.poly.proofs.Lists.{at-scaled, at-product, square-scaled}
+use Rattle.poly.proofs.Lists.{at-scaled, at-product, at-opposite, square-opposite}
 use Rattle.poly.proofs.Domain.{Domain, UpToSign, roots-agree}
-use Rattle.poly.proofs.Top.{product-lead, root-top, top-same}
+use Rattle.poly.proofs.Top.{product-lead, scaled-above, square-root-above}
 
 -- the coefficients from the k-th on
 abbrev pub upper : {A : Type 0} → ℕ → Series A → Series A
@@ -152,28 +152,25 @@ module _ {A : Type 0} {C : Coefficients A} (R : Ring C) (D : Domain C) (zero? : 
   twice-negated : (s : A) → minus-1 ⊗ R .negative s ≡ s
   twice-negated s = atoms R (s ∷ []) (λ ρ e. simp (e 0, read-lit⁻ R ρ, read) (ring R ρ _ _ tt))
 
-  squared-away : (a : A) → minus-1 ⊗ minus-1 ⊗ a ≡ a
-  squared-away a = atoms R (a ∷ []) (λ ρ e. simp (e 0, read-lit⁻ R ρ, read) (ring R ρ _ _ tt))
-
   module _ {M : List A} (L : ℕ) (t : Top C M (L + L)) (q : List A) (h : Same C (square C q) M) where
-    root-above : Above C (at C q) L
-    root-above = root-top R D zero? q L (top-same (λ k. sym (h k)) t) .above
+    low : Above C (at C q) L
+    low = square-root-above R D zero? q L (λ k l. h k ∙ t .above k l)
 
     pub root-lead : at C q L ⊗ at C q L ≡ at C M (L + L)
-    root-lead = sym (product-lead R q q L L root-above root-above) ∙ h (L + L)
+    root-lead = sym (product-lead R q q L L low low) ∙ h (L + L)
 
     kept : (s : A) → at C q L ≡ s → (r : List A) × RootAt C M L s r × UpToSign R r q
-    kept s i = (q, record { above = root-above; lead = i; squared = h }, inl (λ k. refl))
+    kept s i = (q, record { above = low; lead = i; squared = h }, inl (λ k. refl))
 
     negated : (s : A) → at C q L ≡ R .negative s → (r : List A) × RootAt C M L s r × UpToSign R r q
     negated s i = (
       scaled C minus-1 q,
       record {
-        above = λ k j. at-scaled R minus-1 q k ∙ ap (λ x. minus-1 ⊗ x) (root-above k j) ∙ times-none R minus-1;
+        above = scaled-above R minus-1 q L low;
         lead = at-scaled R minus-1 q L ∙ ap (λ x. minus-1 ⊗ x) i ∙ twice-negated s;
-        squared = λ k. square-scaled R minus-1 q k ∙ at-scaled R (minus-1 ⊗ minus-1) (square C q) k ∙ squared-away _ ∙ h k;
+        squared = λ k. square-opposite R q k ∙ h k;
       },
-      inr (λ k. at-scaled R minus-1 q k ∙ minus-one R _),
+      inr (at-opposite R q),
     )
 
     pub root-signed : (s : A) → s ⊗ s ≡ at C M (L + L) → (r : List A) × RootAt C M L s r × UpToSign R r q

@@ -1,16 +1,17 @@
 -- When a polynomial is some number times a square.
 --   UnitSquare, square-primitive   c f = c′ q² with f primitive and c not 0: f = u r² with a unit u and r primitive, q = h r, and c u = c′ h²
 --   square-quotient      the same where c is the greatest common divisor of a polynomial p = c f, and p = c′ q²
+--   root-same            p = c q² says something of the polynomial q, however it is written
 --   square-multiple      back again: f = u r² gives c f = (c u) r²
 --   primitive-squares    κ w² = κ′ w′² with w and w′ primitive and κ not 0: w² = u w′² and κ′ = κ u for a unit u
 -- So only p divided by its content has to be tried for a root, and only up to a unit.
-use mathlib.Core.Path.{_≡_, sym, ap, _∙_}
+use mathlib.Core.Path.{_≡_, sym, _∙_}
 use mathlib.Core.List.{List, []}
 use mathlib.Core.Logic.{_≢_}
 use Rattle.whole.specs.Poly.{Coefficients, Same, Greatest, scaled, square}
-use Rattle.whole.proofs.Ring.{Ring, times-none}
+use Rattle.whole.proofs.Ring.{Ring}
 use Rattle.poly.specs.Terms.{IsUnit, Primitive}
-use Rattle.poly.proofs.Lists.{at-scaled, product-none, scaled-same, scaled-scaled, square-same, square-scaled}
+use Rattle.poly.proofs.Lists.{product-none, scaled-none, scaled-same, scaled-scaled, square-same, square-scaled}
 use Rattle.poly.proofs.Domain.{Domain}
 use Rattle.poly.proofs.Divisibility.{Bezout}
 use Rattle.poly.proofs.Gauss.{primitive-product}
@@ -29,6 +30,9 @@ module _ {A : Type 0} (C : Coefficients A) where
     pub factors : C .times c unit ≡ C .times c′ (C .times factor factor)
 
 module _ {A : Type 0} {C : Coefficients A} (R : Ring C) where
+  pub root-same : (p q r : List A) (c : A) → Same C q r → Same C p (scaled C c (square C q)) → Same C p (scaled C c (square C r))
+  root-same p q r c e h k = h k ∙ scaled-same R c (square C q) (square C r) (square-same R q r e) k
+
   pub square-multiple : (c u : A) (f r : List A) → Same C f (scaled C u (square C r)) → Same C (scaled C c f) (scaled C (C .times c u) (square C r))
   square-multiple c u f r e k = scaled-same R c f (scaled C u (square C r)) e k ∙ scaled-scaled R c u (square C r) k
 
@@ -59,7 +63,7 @@ module _ {A : Type 0} {C : Coefficients A} (R : Ring C) (B : Bezout C) (D : Doma
       }
     where
       q-some : Same C q [] → ⊥
-      q-some z = primitive-multiple R D c f n h (λ k. e k ∙ at-scaled R c′ (square C q) k ∙ ap (λ t. c′ ⊗ t) (product-none R q q z k) ∙ times-none R c′)
+      q-some z = primitive-multiple R D c f n h (λ k. e k ∙ scaled-none R c′ (square C q) (product-none R q q z) k)
 
       multiple : (h : A) (r : List A) → Same C (scaled C h r) q → Same C (scaled C c f) (scaled C (c′ ⊗ (h ⊗ h)) (square C r))
       multiple h r i k =

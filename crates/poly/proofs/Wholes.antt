@@ -1,38 +1,46 @@
 -- The theory at whole numbers.
+--   whole-zero?           whether a number is 0
 --   wholes-domain, wholes-euclid, wholes-bezout     ℤ has no zero divisors, division with a smaller remainder, common divisors a x + b y
 --   twice-whole-some      2 a is not 0 where a is not
 --   whole-unit, unit-whole          the units are the numbers of absolute value 1,
 --   whole-unit-sign       which are 1 and −1
 --   unit-positive         c u = d with c positive, d not negative and u a unit: u is 1
+--   content-once          a polynomial has one greatest common divisor that is not negative,
+--   positive-content      and, where it is not 0, a positive one
 --   WholeSquare, whole-square       p = c f, where c is p's greatest common divisor and positive: if p is c′ q² for a positive c′,
 --                         then f = r² with r primitive, q = h r and c = c′ h²
 use mathlib.Core.Path.{_≡_, refl, sym, ap, _∙_}
-use mathlib.Core.List.{List}
-use mathlib.Core.Logic.{_≢_, _⊎_, inl, inr, ⊎-elim}
+use mathlib.Core.List.{List, []}
+use mathlib.Core.Logic.{_≢_, _↔_, _⊎_, inl, inr, ⊎-elim}
 use Prim.Native.Nat.{ℕ, zero, suc, _*_}
 use native.Mathlib.Omega.{arith}
 use lib.IntN.{ℤ, pos, negsuc, natAbs, ℤ-discrete, _*ℤ_}
 use lib.Signed.{quotZ, remZ, _≤ℤ_, _<ℤ_}
 use Rattle.whole.specs.Number.{wholes}
-use Rattle.whole.specs.Poly.{Same, Divides, Greatest, scaled, square}
+use Rattle.whole.specs.Poly.{at, Same, Divides, Greatest, scaled, square}
 use Rattle.whole.proofs.Division.{quotient-rest, rest-below}
-use Rattle.whole.proofs.Integers.{abs-times, *ℤ-domain, *ℤ-1}
+use Rattle.whole.proofs.Divisor.{divides-abs, greatest-says, greatest-is, greatest-once}
+use Rattle.whole.proofs.Integers.{abs-times, abs-zero, *ℤ-domain, *ℤ-1}
 use Rattle.whole.proofs.Linear.{linear, times-parts}
-use Rattle.whole.proofs.Order.{nonneg-times, nonneg-square}
+use Rattle.whole.proofs.Order.{nonneg-times, nonneg-square, nonneg-is}
 use Rattle.whole.proofs.Wholes.{wholes-ring}
 use Rattle.poly.specs.Terms.{IsUnit, Primitive, twice}
 use Rattle.poly.proofs.Lists.{scaled-one}
 use Rattle.poly.proofs.Domain.{Domain, twice-some}
 use Rattle.poly.proofs.Divisibility.{Bezout, unit-of-one}
 use Rattle.poly.proofs.Euclid.{Euclid, euclid-bezout}
+use Rattle.poly.proofs.Content.{content, greatest-some}
 use Rattle.poly.proofs.Squares.{square-quotient}
+
+pub whole-zero? : (a : ℤ) → Dec (a ≡ pos 0)
+whole-zero? a = ℤ-discrete a (pos 0)
 
 pub wholes-domain : Domain wholes
 wholes-domain = record { splits = *ℤ-domain }
 
 abbrev pub wholes-euclid : Euclid wholes
 wholes-euclid = record {
-  zero? = λ a. ℤ-discrete a (pos 0);
+  zero? = whole-zero?;
   size = natAbs;
   divided = λ a b n. (quotZ a b, remZ a b, quotient-rest a b, rest-below a b n);
 }
@@ -74,6 +82,23 @@ unit-positive {c} {u} {d} h k e i = ⊎-elim (λ one. one) minus (whole-unit-sig
     minus z =
         let f : c *ℤ negsuc 0 ≡ d = rw z at e in
         absurd (omega (linear, times-parts c (negsuc 0)))
+
+-- ---- contents
+pub content-once : {p : List ℤ} {c d : ℤ} → pos 0 ≤ℤ c → pos 0 ≤ℤ d → Greatest wholes p c → Greatest wholes p d → c ≡ d
+content-once {c} {d} h k g i =
+    nonneg-is h ∙ ap pos (greatest-once (rw (nonneg-is h) at g) (rw (nonneg-is k) at i)) ∙ sym (nonneg-is k)
+
+pub positive-content : (p : List ℤ) → (Same wholes p [] → ⊥) → (c : ℤ) × (pos 0 <ℤ c) × Greatest wholes p c
+positive-content p n =
+    let (c, g) = content wholes-ring wholes-bezout p in
+    (pos (natAbs c), size (natAbs c) (λ z. greatest-some wholes-ring g n (abs-zero c z)), greatest-is wholes-ring (λ d. says d c g))
+  where
+    size : (k : ℕ) → (k ≡ 0 → ⊥) → pos 0 <ℤ pos k
+    size zero h = absurd (h refl)
+    size (suc k) h = omega linear
+
+    says : (d c : ℤ) → Greatest wholes p c → Divides wholes d (pos (natAbs c)) ↔ ((k : ℕ) → Divides wholes d (at wholes p k))
+    says d c g = (λ h. greatest-says wholes-ring g d .0 (divides-abs d c .0 h), λ h. divides-abs d c .1 (greatest-says wholes-ring g d .1 h))
 
 -- ---- squares
 pub record WholeSquare (c c′ : ℤ) (f q : List ℤ) : Type 0 where

@@ -2,6 +2,7 @@
 use mathlib.Core.Path.{_≡_, sym, ap, _∙_, subst}
 use mathlib.Core.Logic.{_≢_, _↔_, Iff·rfl, Iff·symm, Iff·trans}
 use Prim.Native.Nat.{_^_}
+use borrow.Author.Needs.{needs}
 use lib.IntN.{natAbs}
 use mir.Facts.{sfits-lit}
 use mir.Syntax.{w64}
@@ -26,7 +27,7 @@ abbrev μ-loop : tie.MeasureT-loop
 μ-loop a b x y = natAbs (norm y)
 
 loop-holds : tie.Need-loop-holds Inv-loop μ-loop
-loop-holds c = (c .pre .0, c .pre .1, λ d. Iff·rfl)
+loop-holds c = (search needs, search needs, λ d. Iff·rfl)
 
 norm-requires : tie.Need-norm-requires Inv-loop μ-loop
 norm-requires c κs = c .loop .inv .1

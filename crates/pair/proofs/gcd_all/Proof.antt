@@ -58,7 +58,7 @@ array-copy-out-p : tie.Need-array-copy-out-p Inv-loop μ-loop
 array-copy-out-p c = search needs
 
 gcd-requires : tie.Need-gcd-requires Inv-loop μ-loop
-gcd-requires c κs = let l = c .before .before .loop in (c .before .before .before .pre (l .i), l .inv .1)
+gcd-requires c κs = let h = c .before .before .before .pre (c .before .before .loop .i) in search needs
 
 add-i : tie.Need-add-i Inv-loop μ-loop
 add-i c = omega arith

@@ -1,7 +1,6 @@
 -- `pair::is_zero` meets its contract.
 use mathlib.Core.Path.{ap}
 use borrow.Author.Needs.{needs}
-use lib.IntN.{ℤ, pos}
 use mir.Facts.{sfits-lit}
 use mir.Syntax.{w64}
 use mir.Val.{SFits, ofZ}

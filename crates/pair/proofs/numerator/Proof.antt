@@ -10,7 +10,7 @@ conjugate-requires : tie.Need-conjugate-requires
 conjugate-requires c κs = search needs
 
 product-requires : tie.Need-product-requires
-product-requires c κs = (c .before .pre .0, rw (c .conjugate .ensures) (conjugate-within (c .before .pre .1)))
+product-requires c κs = (search needs, rw (c .conjugate .ensures) (conjugate-within (c .before .pre .1)))
 
 returns : tie.Need-returns
 returns c = c .product .ensures ∙ ap (times (c .before .before .args .a)) (c .before .conjugate .ensures)

@@ -1,6 +1,7 @@
 -- `pair::rest` meets its contract.
 use mathlib.Core.Path.{sym, ap, _∙_}
 use Prim.Native.Nat.{_^_}
+use borrow.Author.Needs.{needs}
 use lib.Dec.{lit≤}
 use Rattle.pair.specs.Pairs.{minus, PartsWithin}
 use Rattle.pair.proofs.Parts.{wider, times-within}
@@ -9,7 +10,7 @@ use Rattle.pair.proofs.rest.Statement.{statement}
 use Rattle.pair.proofs.rest.Tie as tie
 
 nearest-requires : tie.Need-nearest-requires
-nearest-requires c κs = c .pre
+nearest-requires c κs = search needs
 
 small : (c : tie.After-nearest) → PartsWithin (2 ^ 30) (c .nearest .result)
 small c = let h = c .before .pre in nearest-within (h .0) (h .2) (c .nearest .ensures)
@@ -18,7 +19,7 @@ product-requires : tie.Need-product-requires
 product-requires c κs = (small c, c .before .pre .1)
 
 difference-requires : tie.Need-difference-requires
-difference-requires c κs = let h = c .before .before .pre in (wider (lit≤ tt) (h .0), rw (c .product .ensures) (times-within (small (c .before)) (h .1)))
+difference-requires c κs = let h = c .before .before .pre in (wider {B = 2 ^ 30} (lit≤ tt) (search needs), rw (c .product .ensures) (times-within (small (c .before)) (h .1)))
 
 returns : tie.Need-returns
 returns c =

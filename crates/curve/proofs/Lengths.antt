@@ -1,0 +1,205 @@
+-- N = |D|² of a polynomial D of pairs. Sums of two squares vanish only together, and they are multiplicative.
+--   re-of, im-of, lengthOf        the parts and N of a series of pairs
+--   re-conv, im-conv              the parts of a product
+--   at-squaredLength              N is that of D as a series
+--   squaredLength-same            the same polynomial has the same N
+--   squaredLength-product, squaredLength-scaled     N of a product is the product of the two, and N of κ D is |κ|² times that of D
+--   re-above, im-above            where D has no power above n, its parts have none,
+--   squaredLength-above           and N has none above 2 n,
+--   squaredLength-lead            where it has the norm of D's n-th coefficient
+--   squaredLength-top             the highest power of N is twice that of D,
+--   squaredLength-lead-positive   and its coefficient is positive
+--   squaredLength-zero            N is 0 exactly where D is
+--   generated-some                D = κ w², and not 0: κ is not 0
+--   generated-squared             D = κ w² gives N = |κ|² (|w|²)²
+--   squared-above                 N = c q²: q has no power above those of D
+--   pairForm                      sⁿ D(v / s),
+--   squaredLength-form            of which s²ⁿ N(v / s) is the norm;
+--   squared-form                  where N = c q², that is c (sⁿ q(v / s))²
+use mathlib.Core.Path.{_≡_, refl, sym, ap, ap₂, _∙_, fun-ext}
+use mathlib.Core.List.{List, [], _∷_}
+use mathlib.Core.Logic.{_≢_, _↔_, ⊎-elim}
+use Prim.Native.Nat.{ℕ, zero, suc, _+_}
+use native.Mathlib.Omega.{arith}
+use lib.IntN.{ℤ, pos, _+ℤ_, _-ℤ_, _*ℤ_}
+use lib.ListN.{List·getD-map}
+use lib.Signed.{_<ℤ_}
+use Rattle.whole.specs.Poly.{Coefficients, at, Same, sum, scaled, product, square}
+use Rattle.whole.specs.Number.{wholes}
+use Rattle.whole.proofs.Ring.{Ring}
+use Rattle.whole.proofs.Solver.{atoms, read, ring}
+use Rattle.whole.proofs.Linear.{linear}
+use Rattle.whole.proofs.Wholes.{wholes-ring, readℤ, atomsℤ, ringℤ}
+use Rattle.poly.specs.Terms.{Above, Top}
+use Rattle.poly.proofs.Series.{Series, tail, conv, series, series-ring}
+use Rattle.poly.proofs.Lists.{at-sum, at-scaled, at-product, of-product, product-same, scaled-same, none-scaled, scaled-is-product}
+use Rattle.poly.proofs.Top.{length-above, conv-above, conv-lead, top-some, find-top, root-above}
+use Rattle.poly.proofs.Forms.{form, form-plus, form-times, form-product}
+use Rattle.poly.proofs.Wholes.{whole-zero?, wholes-domain}
+use Rattle.pair.specs.declared.Pair.{Pair}
+use Rattle.pair.specs.Pairs.{pair, pairs, norm}
+use Rattle.pair.proofs.Laws.{pairs-ring, norm-zero, norm-some}
+use Rattle.pair.proofs.Divisors.{pair-zero?}
+use Rattle.root.specs.Roots.{LeadPositive}
+use Rattle.curve.specs.Curves.{reals, imaginaries, squaredLength}
+use Rattle.curve.specs.Verdicts.{Squared, Generated, Still}
+
+-- ---- N as a series, from D as one
+abbrev pub re-of : Series Pair → Series ℤ
+re-of f k = f k .re
+
+abbrev pub im-of : Series Pair → Series ℤ
+im-of f k = f k .im
+
+abbrev pub lengthOf : Series Pair → Series ℤ
+lengthOf f = series wholes .plus (conv wholes (re-of f) (re-of f)) (conv wholes (im-of f) (im-of f))
+
+pub at-squaredLength : (D : List Pair) (k : ℕ) → at wholes (squaredLength D) k ≡ lengthOf (at pairs D) k
+unfolding squaredLength
+at-squaredLength D k =
+    at-sum wholes-ring (square wholes (reals D)) (square wholes (imaginaries D)) k
+    ∙ ap₂ _+ℤ_
+    (squared (reals D) (re-of (at pairs D)) (λ i. List·getD-map (λ (z : Pair). z .re) D i (pairs .none)))
+    (squared (imaginaries D) (im-of (at pairs D)) (λ i. List·getD-map (λ (z : Pair). z .im) D i (pairs .none)))
+  where
+    squared : (p : List ℤ) (f : Series ℤ) → ((i : ℕ) → at wholes p i ≡ f i) → at wholes (square wholes p) k ≡ conv wholes f f k
+    squared p f e = at-product wholes-ring p p k ∙ ap (λ g. conv wholes g g k) (fun-ext e)
+
+of-squaredLength : (D : List Pair) → at wholes (squaredLength D) ≡ lengthOf (at pairs D)
+of-squaredLength D = fun-ext (at-squaredLength D)
+
+pub squaredLength-same : (D E : List Pair) → Same pairs D E → Same wholes (squaredLength D) (squaredLength E)
+squaredLength-same D E e k = at-squaredLength D k ∙ ap (λ f. lengthOf f k) (fun-ext e) ∙ sym (at-squaredLength E k)
+
+-- ---- products
+pub re-conv : (f g : Series Pair) (k : ℕ) → conv pairs f g k .re ≡ conv wholes (re-of f) (re-of g) k -ℤ conv wholes (im-of f) (im-of g) k
+unfolding conv
+re-conv f g zero = refl
+re-conv f g (suc k) =
+    ap (λ x. f 0 .re *ℤ g (suc k) .re -ℤ f 0 .im *ℤ g (suc k) .im +ℤ x) (re-conv (tail f) g k)
+    ∙ regroup (f 0 .re *ℤ g (suc k) .re) (f 0 .im *ℤ g (suc k) .im) (conv wholes (re-of (tail f)) (re-of g) k) (conv wholes (im-of (tail f)) (im-of g) k)
+  where
+    regroup : (a b x y : ℤ) → a -ℤ b +ℤ (x -ℤ y) ≡ a +ℤ x -ℤ (b +ℤ y)
+    regroup a b x y = atomsℤ (a ∷ b ∷ x ∷ y ∷ []) (λ ρ e. simp (e 0, e 1, e 2, e 3, readℤ) (ringℤ ρ _ _ tt))
+
+pub im-conv : (f g : Series Pair) (k : ℕ) → conv pairs f g k .im ≡ conv wholes (re-of f) (im-of g) k +ℤ conv wholes (im-of f) (re-of g) k
+unfolding conv
+im-conv f g zero = refl
+im-conv f g (suc k) =
+    ap (λ x. f 0 .re *ℤ g (suc k) .im +ℤ f 0 .im *ℤ g (suc k) .re +ℤ x) (im-conv (tail f) g k)
+    ∙ regroup (f 0 .re *ℤ g (suc k) .im) (f 0 .im *ℤ g (suc k) .re) (conv wholes (re-of (tail f)) (im-of g) k) (conv wholes (im-of (tail f)) (re-of g) k)
+  where
+    regroup : (a b x y : ℤ) → a +ℤ b +ℤ (x +ℤ y) ≡ a +ℤ x +ℤ (b +ℤ y)
+    regroup a b x y = atomsℤ (a ∷ b ∷ x ∷ y ∷ []) (λ ρ e. simp (e 0, e 1, e 2, e 3, readℤ) (ringℤ ρ _ _ tt))
+
+-- |x y|² = |x|² |y|², with x = a + i b and y = c + i d
+module _ {A : Type 0} {C : Coefficients A} (R : Ring C) where
+  open Coefficients C using (plus as _⊕_, times as _⊗_)
+
+  infixl 60 _⊕_
+  infixl 70 _⊗_
+  two-squares : (a b c d : A)
+      → (a ⊗ c ⊕ R .negative (b ⊗ d)) ⊗ (a ⊗ c ⊕ R .negative (b ⊗ d)) ⊕ (a ⊗ d ⊕ b ⊗ c) ⊗ (a ⊗ d ⊕ b ⊗ c) ≡ (a ⊗ a ⊕ b ⊗ b) ⊗ (c ⊗ c ⊕ d ⊗ d)
+  two-squares a b c d = atoms R (a ∷ b ∷ c ∷ d ∷ []) (λ ρ e. simp (e 0, e 1, e 2, e 3, read) (ring R ρ _ _ tt))
+
+length-conv : (f g : Series Pair) → lengthOf (conv pairs f g) ≡ conv wholes (lengthOf f) (lengthOf g)
+length-conv f g =
+    ap₂ (λ (x y : Series ℤ). series wholes .plus (conv wholes x x) (conv wholes y y)) (fun-ext (re-conv f g)) (fun-ext (im-conv f g))
+    ∙ two-squares (series-ring wholes-ring) (re-of f) (im-of f) (re-of g) (im-of g)
+
+pub squaredLength-product : (D E : List Pair) → Same wholes (squaredLength (product pairs D E)) (product wholes (squaredLength D) (squaredLength E))
+squaredLength-product D E k =
+    ap (λ f. f k) (of-squaredLength (product pairs D E) ∙ ap lengthOf (of-product pairs-ring D E) ∙ length-conv (at pairs D) (at pairs E))
+    ∙ ap₂ (λ f g. conv wholes f g k) (sym (of-squaredLength D)) (sym (of-squaredLength E))
+    ∙ sym (at-product wholes-ring (squaredLength D) (squaredLength E) k)
+
+-- ---- the highest power
+pub re-above : {f : Series Pair} {n : ℕ} → Above pairs f n → Above wholes (re-of f) n
+re-above u k h = ap (λ (z : Pair). z .re) (u k h)
+
+pub im-above : {f : Series Pair} {n : ℕ} → Above pairs f n → Above wholes (im-of f) n
+im-above u k h = ap (λ (z : Pair). z .im) (u k h)
+
+module _ (D : List Pair) (n : ℕ) (u : Above pairs (at pairs D) n) where
+  abbrev first : Series ℤ
+  first = re-of (at pairs D)
+
+  abbrev second : Series ℤ
+  second = im-of (at pairs D)
+
+  pub squaredLength-above : Above wholes (at wholes (squaredLength D)) (n + n)
+  squaredLength-above k h =
+      at-squaredLength D k
+      ∙ ap₂ _+ℤ_
+      (conv-above wholes-ring n n first first (re-above u) (re-above u) k h)
+      (conv-above wholes-ring n n second second (im-above u) (im-above u) k h)
+
+  pub squaredLength-lead : at wholes (squaredLength D) (n + n) ≡ norm (at pairs D n)
+  squaredLength-lead =
+      at-squaredLength D (n + n)
+      ∙ ap₂ _+ℤ_
+      (conv-lead wholes-ring n n first first (re-above u) (re-above u))
+      (conv-lead wholes-ring n n second second (im-above u) (im-above u))
+
+pub squaredLength-top : {D : List Pair} {L : ℕ} → Top pairs D L → Top wholes (squaredLength D) (L + L)
+squaredLength-top {D} {L} t = record {
+  lead = λ z. t .lead (norm-zero (at pairs D L) (sym (squaredLength-lead D L (t .above)) ∙ z));
+  above = squaredLength-above D L (t .above);
+}
+
+pub squaredLength-lead-positive : {D : List Pair} {L : ℕ} → Top pairs D L → LeadPositive (squaredLength D)
+squaredLength-lead-positive {D} {L} t = record {
+  power = L + L;
+  positive = rw (squaredLength-lead D L (t .above)) (norm-some (at pairs D L) (t .lead));
+  above = squaredLength-above D L (t .above);
+}
+
+pub squaredLength-zero : (D : List Pair) → Same pairs D [] ↔ Same wholes (squaredLength D) []
+unfolding squaredLength sum product
+squaredLength-zero D =
+    (λ z. squaredLength-same D [] z, λ z. ⊎-elim (λ e. e) (λ t. absurd (top-some (squaredLength-top (t .1)) z)) (find-top pair-zero? D))
+
+-- ---- multiples
+squaredLength-constant : (κ : Pair) → Same wholes (squaredLength (κ ∷ [])) (norm κ ∷ [])
+squaredLength-constant κ zero = squaredLength-lead (κ ∷ []) zero (length-above pairs (κ ∷ []) zero (omega arith))
+squaredLength-constant κ (suc k) = squaredLength-above (κ ∷ []) zero (length-above pairs (κ ∷ []) zero (omega arith)) (suc k) (omega arith)
+
+pub squaredLength-scaled : (κ : Pair) (D : List Pair) → Same wholes (squaredLength (scaled pairs κ D)) (scaled wholes (norm κ) (squaredLength D))
+squaredLength-scaled κ D k =
+    squaredLength-same (scaled pairs κ D) (product pairs (κ ∷ []) D) (scaled-is-product pairs-ring κ D) k
+    ∙ squaredLength-product (κ ∷ []) D k
+    ∙ product-same wholes-ring (squaredLength (κ ∷ [])) (norm κ ∷ []) (squaredLength D) (squaredLength D) (squaredLength-constant κ) (λ i. refl) k
+    ∙ sym (scaled-is-product wholes-ring (norm κ) (squaredLength D) k)
+
+-- ---- D = κ w²
+pub generated-some : (D : List Pair) (κ : Pair) (w : List Pair) → Generated D κ w → (Still D → ⊥) → κ ≢ pairs .none
+generated-some D κ w h n e = n (λ k. h k ∙ none-scaled pairs-ring κ (square pairs w) e k)
+
+pub generated-squared : (D : List Pair) (κ : Pair) (w : List Pair) → Generated D κ w → Squared D (norm κ) (squaredLength w)
+generated-squared D κ w h k =
+    squaredLength-same D (scaled pairs κ (square pairs w)) h k
+    ∙ squaredLength-scaled κ (square pairs w) k
+    ∙ scaled-same wholes-ring (norm κ) (squaredLength (square pairs w)) (square wholes (squaredLength w)) (squaredLength-product w w) k
+
+-- ---- values, and N = c q²
+abbrev pub pairForm : ℤ → ℤ → ℕ → List Pair → Pair
+pairForm s v n D = pair (form wholes s v n (re-of (at pairs D))) (form wholes s v n (im-of (at pairs D)))
+
+pub squaredLength-form : (s v : ℤ) (D : List Pair) (n : ℕ) → Above pairs (at pairs D) n → form wholes s v (n + n) (at wholes (squaredLength D)) ≡ norm (pairForm s v n D)
+squaredLength-form s v D n u =
+    ap (form wholes s v (n + n)) (of-squaredLength D)
+    ∙ form-plus wholes-ring s v (n + n) _ _
+    ∙ ap₂ _+ℤ_
+    (form-product wholes-ring s v n n (re-of (at pairs D)) (re-of (at pairs D)) (re-above u) (re-above u))
+    (form-product wholes-ring s v n n (im-of (at pairs D)) (im-of (at pairs D)) (im-above u) (im-above u))
+
+module _ (D : List Pair) (n : ℕ) (c : ℤ) (q : List ℤ) (u : Above pairs (at pairs D) n) (p : pos 0 <ℤ c) (h : Squared D c q) where
+  pub squared-above : Above wholes (at wholes q) n
+  squared-above = root-above wholes-ring wholes-domain whole-zero? (squaredLength D) q c n (λ z. omega linear) h (squaredLength-above D n u)
+
+  pub squared-form : (s v : ℤ) → norm (pairForm s v n D) ≡ c *ℤ (form wholes s v n (at wholes q) *ℤ form wholes s v n (at wholes q))
+  squared-form s v =
+      sym (squaredLength-form s v D n u)
+      ∙ ap (form wholes s v (n + n)) (fun-ext (λ k. h k ∙ at-scaled wholes-ring c (square wholes q) k ∙ ap (λ x. c *ℤ x) (at-product wholes-ring q q k)))
+      ∙ form-times wholes-ring s v (n + n) c _
+      ∙ ap (λ x. c *ℤ x) (form-product wholes-ring s v n n (at wholes q) (at wholes q) squared-above squared-above)

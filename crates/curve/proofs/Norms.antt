@@ -1,0 +1,71 @@
+-- The content of N from a generator of D.
+--   generated-content      D = κ w² with w primitive and κ not 0: |κ|² is the greatest common divisor of N
+--   Reduced, reduced       D = κ w², not 0: it is so with a primitive w
+--   generated-norm         D = κ w², not 0: the norm of D's greatest common divisor is that of N
+--   norm-differs-not-generated      so where they differ, D is no κ w²
+use mathlib.Core.Path.{_≡_, sym, ap, _∙_}
+use mathlib.Core.List.{List}
+use mathlib.Core.Logic.{_≢_}
+use lib.IntN.{_*ℤ_}
+use Rattle.whole.specs.Poly.{Greatest, square}
+use Rattle.whole.specs.Number.{wholes}
+use Rattle.whole.proofs.Integers.{*ℤ-1}
+use Rattle.whole.proofs.Linear.{linear}
+use Rattle.whole.proofs.Wholes.{wholes-ring}
+use Rattle.poly.specs.Terms.{Primitive}
+use Rattle.poly.proofs.Gauss.{primitive-product}
+use Rattle.poly.proofs.Content.{quotients, greatest-some, primitive-greatest}
+use Rattle.poly.proofs.Squares.{square-quotient, square-multiple}
+use Rattle.poly.proofs.Wholes.{wholes-domain, wholes-bezout, content-once}
+use Rattle.pair.specs.declared.Pair.{Pair}
+use Rattle.pair.specs.Pairs.{pairs, times, norm}
+use Rattle.pair.proofs.Laws.{pairs-ring, pairs-domain, norm-times, norm-zero, norm-nonneg}
+use Rattle.pair.proofs.Euclid.{pairs-bezout}
+use Rattle.pair.proofs.Units.{unit-norm}
+use Rattle.curve.specs.declared.Square.{Square}
+use Rattle.curve.specs.Curves.{squaredLength}
+use Rattle.curve.specs.Verdicts.{Still, Generated, NotGenerated, SquareOf}
+use Rattle.curve.proofs.Lengths.{generated-squared}
+use Rattle.curve.proofs.Conjugates.{squaredLength-primitive}
+
+pub generated-content : (D : List Pair) (κ : Pair) (w : List Pair) → κ ≢ pairs .none → Primitive pairs w → Generated D κ w
+    → Greatest wholes (squaredLength D) (norm κ)
+generated-content D κ w n h e =
+    primitive-greatest wholes-ring wholes-bezout wholes-domain (squaredLength D) (square wholes (squaredLength w)) (norm κ) (λ z. n (norm-zero κ z))
+    (primitive-product wholes-ring wholes-bezout (squaredLength w) (squaredLength w) (squaredLength-primitive w h) (squaredLength-primitive w h))
+    (λ k. sym (generated-squared D κ w e k))
+
+-- D = κ w² with w primitive, and |κ|² is that of D's greatest common divisor
+pub record Reduced (D : List Pair) (g : Pair) : Type 0 where
+  pub factor : Pair
+  pub factor-some : factor ≢ pairs .none
+  pub factor-norm : norm factor ≡ norm g
+  pub root : List Pair
+  pub root-primitive : Primitive pairs root
+  pub generated : Generated D factor root
+
+pub reduced : (D : List Pair) (g κ : Pair) (w : List Pair) → Greatest pairs D g → (Still D → ⊥) → Generated D κ w → Reduced D g
+reduced D g κ w h n e =
+    let (E, j) = quotients pairs-ring g D (h .divides) in
+    let g-some : g ≢ pairs .none = greatest-some pairs-ring h n in
+    let r = square-quotient pairs-ring pairs-bezout pairs-domain κ E w g-some h j e in
+    let same : norm (times g (r .unit)) ≡ norm g = norm-times g (r .unit) ∙ ap (λ t. norm g *ℤ t) (unit-norm (r .is-unit)) ∙ *ℤ-1 (norm g) in
+    record {
+      factor = times g (r .unit);
+      factor-some = λ z. g-some (norm-zero g (sym same ∙ ap norm z));
+      factor-norm = same;
+      root = r .root;
+      root-primitive = r .root-primitive;
+      generated = λ k. sym (j k) ∙ square-multiple pairs-ring g (r .unit) E (r .root) (r .squared) k;
+    }
+
+pub generated-norm : (D : List Pair) (s : Square) (g κ : Pair) (w : List Pair) → SquareOf D s → Greatest pairs D g → (Still D → ⊥) → Generated D κ w
+    → norm g ≡ s .c
+generated-norm D s g κ w h i n e =
+    let r = reduced D g κ w i n e in
+    content-once (norm-nonneg g) (omega (linear, h .positive))
+    (rw (r .factor-norm) at (generated-content D (r .factor) (r .root) (r .factor-some) (r .root-primitive) (r .generated)))
+    (h .content)
+
+pub norm-differs-not-generated : (D : List Pair) (s : Square) (g : Pair) → SquareOf D s → Greatest pairs D g → (Still D → ⊥) → norm g ≢ s .c → NotGenerated D
+norm-differs-not-generated D s g h i n d κ w e = d (generated-norm D s g κ w h i n e)

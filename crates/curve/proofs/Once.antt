@@ -1,0 +1,176 @@
+-- One answer: the rules leave one c and q, one κ and w, and one verdict.
+--   square-once            the c and q of N
+--   generators-agree       κ w² = κ′ w′², all normalised, gives κ = κ′ and w = w′
+--   preimage-norms         of a pre-image c = |κ|² and q = |w|²
+--   preimage-once          the κ, w, c and q of D
+--   verdict-once           the verdict on D
+--   recognised-once        what `recognise` promises
+use mathlib.Core.Path.{_≡_, refl, sym, ap, _∙_}
+use mathlib.Core.List.{List, [], _∷_}
+use mathlib.Core.Logic.{_≢_, _⊎_, inl, inr}
+use native.Mathlib.Omega.{arith}
+use lib.IntN.{ℤ, pos, negsuc}
+use lib.Signed.{_<ℤ_}
+use Rattle.refusal.specs.declared.Refusal.{Refusal}
+use Rattle.refusal.proofs.Laws.{number-positive, number-once, first-once}
+use Rattle.whole.specs.Poly.{at, Same, scaled, square}
+use Rattle.whole.specs.Number.{wholes, FirstPositive}
+use Rattle.whole.proofs.Linear.{linear}
+use Rattle.whole.proofs.Ring.{minus-one}
+use Rattle.whole.proofs.Wholes.{wholes-ring}
+use Rattle.poly.proofs.Lists.{scaled-one}
+use Rattle.poly.proofs.Domain.{squares-agree, scaled-squares-agree}
+use Rattle.poly.proofs.Top.{leads-agree}
+use Rattle.poly.proofs.Content.{Associates}
+use Rattle.poly.proofs.Squares.{primitive-squares}
+use Rattle.poly.proofs.Wholes.{wholes-domain, content-once}
+use Rattle.pair.specs.declared.Pair.{Pair}
+use Rattle.pair.specs.Pairs.{pair, pairs, times, negative, norm, imaginary}
+use Rattle.pair.proofs.Laws.{pairs-ring, pairs-domain, norm-nonneg}
+use Rattle.pair.proofs.Euclid.{pairs-bezout}
+use Rattle.pair.proofs.Roots.{not-both}
+use Rattle.pair.proofs.Units.{no-imaginary-square}
+use Rattle.root.specs.declared.Quartic.{Quartic}
+use Rattle.root.specs.Pairs.{quadratic, LeadKept}
+use Rattle.root.specs.declared.pairs.Quadratic.{Quadratic}
+use Rattle.root.specs.Roots.{quartic}
+use Rattle.curve.specs.declared.Square.{Square}
+use Rattle.curve.specs.declared.Preimage.{Preimage}
+use Rattle.curve.specs.declared.Verdict.{Verdict}
+use Rattle.curve.specs.declared.Verdict.the-variants as verdict
+use Rattle.curve.specs.Curves.{squaredLength, legPolynomial}
+use Rattle.curve.specs.Verdicts.{Generated, Coprime, SquareOf, PreimageOf, Holds, numberOfVerdict}
+use Rattle.curve.specs.Promise.{Recognised, out-of-range}
+use Rattle.curve.proofs.Coprime.{by-unit, coprime-primitive}
+use Rattle.curve.proofs.Lengths.{generated-squared, squaredLength-lead-positive}
+use Rattle.curve.proofs.Norms.{generated-content}
+use Rattle.curve.proofs.Signs.{lead-once, lead-first-once, first-some, first-top}
+
+-- ---- c and q
+quartic-once : (p q : Quartic) → Same wholes (quartic p) (quartic q) → p ≡ q
+quartic-once p q e = λ i. record { q0 = e 0 i; q1 = e 1 i; q2 = e 2 i; q3 = e 3 i; q4 = e 4 i }
+
+positive-some : {c : ℤ} → pos 0 <ℤ c → c ≢ pos 0
+positive-some h z = omega linear
+
+pub square-once : (D : List Pair) (s t : Square) → SquareOf D s → SquareOf D t → s ≡ t
+square-once D s t h k = λ i. record { c = c i; q = q i }
+  where
+    c : s .c ≡ t .c
+    c = content-once (omega (linear, h .positive)) (omega (linear, k .positive)) (h .content) (k .content)
+
+    q : s .q ≡ t .q
+    q =
+        quartic-once (s .q) (t .q)
+        (lead-once (quartic (s .q)) (quartic (t .q)) (h .lead) (k .lead)
+        (scaled-squares-agree wholes-ring wholes-domain (s .c) (quartic (s .q)) (quartic (t .q)) (positive-some (h .positive))
+        (λ j. sym (h .squared j) ∙ k .squared j ∙ ap (λ x. at wholes (scaled wholes x (square wholes (quartic (t .q)))) j) (sym c))))
+
+-- ---- κ and w
+quadratic-once : (v w : Quadratic) → Same pairs (quadratic v) (quadratic w) → v ≡ w
+quadratic-once v w e = λ i. record { b0 = e 0 i; b1 = e 1 i; b2 = e 2 i }
+
+pub generators-agree : (D : List Pair) (κ κ′ : Pair) (w w′ : List Pair) → Generated D κ w → Generated D κ′ w′ → Coprime w → Coprime w′
+    → FirstPositive (κ .re) (κ .im) → FirstPositive (κ′ .re) (κ′ .im) → LeadKept w → LeadKept w′ → (κ ≡ κ′) × Same pairs w w′
+generators-agree D κ κ′ w w′ e e′ h h′ f f′ l l′ =
+    by-unit (λ u. Same pairs (square pairs w) (scaled pairs u (square pairs w′)) → times κ u ≡ κ′ → (κ ≡ κ′) × Same pairs w w′)
+    (λ p q. (
+      sym (pairs-ring .times-one κ) ∙ q,
+      lead-first-once w w′ l l′ (squares-agree pairs-ring pairs-domain w w′ (λ k. p k ∙ scaled-one pairs-ring (square pairs w′) k)),
+    ))
+    (λ p q. absurd (not-both κ′ κ f′ f (sym q ∙ pairs-ring .times-comm κ (pair (negsuc 0) (pos 0)) ∙ minus-one pairs-ring κ)))
+    (λ p q. absurd (no-imaginary-square s t t-some .0 (leads imaginary (λ z. omega (linear, ap (λ a. a .im) z)) p)))
+    (λ p q. absurd (no-imaginary-square s t t-some .1 (leads (negative imaginary) (λ z. omega (linear, ap (λ a. a .im) z)) p)))
+    (a .is-unit) (a .polynomials) (a .factors)
+  where
+    a : Associates pairs κ κ′ (square pairs w) (square pairs w′)
+    a =
+        primitive-squares pairs-ring pairs-bezout pairs-domain κ κ′ w w′ (first-some f) (coprime-primitive w h) (coprime-primitive w′ h′)
+        (λ k. sym (e k) ∙ e′ k)
+
+    s : Pair
+    s = at pairs w (l .power)
+
+    t : Pair
+    t = at pairs w′ (l′ .power)
+
+    t-some : t ≢ pairs .none
+    t-some = first-top l′ .lead
+
+    leads : (u : Pair) → u ≢ pairs .none → Same pairs (square pairs w) (scaled pairs u (square pairs w′)) → times s s ≡ times u (times t t)
+    leads u some = leads-agree pairs-ring pairs-domain w w′ u some (first-top l) (first-top l′)
+
+pub preimage-norms : (D : List Pair) (p : Preimage) → PreimageOf D p
+    → (p .square .c ≡ norm (p .kappa)) × Same wholes (quartic (p .square .q)) (squaredLength (quadratic (p .w)))
+preimage-norms D p h = (c, q)
+  where
+    s : SquareOf D (p .square)
+    s = h .square-of
+
+    w : List Pair
+    w = quadratic (p .w)
+
+    c : p .square .c ≡ norm (p .kappa)
+    c =
+        content-once (omega (linear, s .positive)) (norm-nonneg (p .kappa)) (s .content)
+        (generated-content D (p .kappa) w (first-some (h .factor)) (coprime-primitive w (h .coprime)) (h .generated))
+
+    q : Same wholes (quartic (p .square .q)) (squaredLength w)
+    q =
+        lead-once (quartic (p .square .q)) (squaredLength w) (s .lead) (squaredLength-lead-positive (first-top (h .lead)))
+        (scaled-squares-agree wholes-ring wholes-domain (p .square .c) (quartic (p .square .q)) (squaredLength w) (positive-some (s .positive))
+        (λ j.
+        sym (s .squared j)
+        ∙ generated-squared D (p .kappa) w (h .generated) j
+        ∙ ap (λ x. at wholes (scaled wholes x (square wholes (squaredLength w))) j) (sym c)))
+
+pub preimage-once : (D : List Pair) (p p′ : Preimage) → PreimageOf D p → PreimageOf D p′ → p ≡ p′
+preimage-once D p p′ h k =
+    let (κ, w) =
+    generators-agree D (p .kappa) (p′ .kappa) (quadratic (p .w)) (quadratic (p′ .w)) (h .generated) (k .generated) (h .coprime) (k .coprime)
+    (h .factor) (k .factor) (h .lead) (k .lead) in
+    λ i. record { kappa = κ i; w = quadratic-once (p .w) (p′ .w) w i; square = square-once D (p .square) (p′ .square) (h .square-of) (k .square-of) i }
+
+-- ---- verdicts
+pub verdict-once : (D : List Pair) (v v′ : Verdict) → Holds D v → Holds D v′ → v ≡ v′
+verdict-once D verdict.Still verdict.Still h k = refl
+verdict-once D verdict.Still verdict.No h k = absurd (k .0 h)
+verdict-once D verdict.Still (verdict.Ph s) h k = absurd (k .0 h)
+verdict-once D verdict.Still (verdict.Pre p) h k = absurd (k .0 h)
+verdict-once D verdict.No verdict.Still h k = absurd (h .0 k)
+verdict-once D verdict.No verdict.No h k = refl
+verdict-once D verdict.No (verdict.Ph s) h k = absurd (h .1 (s .c) (quartic (s .q)) (k .1 .positive) (k .1 .squared))
+verdict-once D verdict.No (verdict.Pre p) h k =
+    absurd (h .1 (p .square .c) (quartic (p .square .q)) (k .1 .square-of .positive) (k .1 .square-of .squared))
+verdict-once D (verdict.Ph s) verdict.Still h k = absurd (h .0 k)
+verdict-once D (verdict.Ph s) verdict.No h k = absurd (k .1 (s .c) (quartic (s .q)) (h .1 .positive) (h .1 .squared))
+verdict-once D (verdict.Ph s) (verdict.Ph t) h k = ap verdict.Ph (square-once D s t (h .1) (k .1))
+verdict-once D (verdict.Ph s) (verdict.Pre p) h k = absurd (h .2 (p .kappa) (quadratic (p .w)) (k .1 .generated))
+verdict-once D (verdict.Pre p) verdict.Still h k = absurd (h .0 k)
+verdict-once D (verdict.Pre p) verdict.No h k =
+    absurd (k .1 (p .square .c) (quartic (p .square .q)) (h .1 .square-of .positive) (h .1 .square-of .squared))
+verdict-once D (verdict.Pre p) (verdict.Ph s) h k = absurd (k .2 (p .kappa) (quadratic (p .w)) (h .1 .generated))
+verdict-once D (verdict.Pre p) (verdict.Pre p′) h k = ap verdict.Pre (preimage-once D p p′ (h .1) (k .1))
+
+-- an answer or a refusal
+answered : (v : Verdict) → (numberOfVerdict v ≡ 0) ⊎ ((r : Refusal) × (v ≡ verdict.Refused r))
+answered verdict.Still = inl refl
+answered verdict.No = inl refl
+answered (verdict.Ph s) = inl refl
+answered (verdict.Pre p) = inl refl
+answered (verdict.Refused r) = inr (r, refl)
+
+not-answered : (v : Verdict) (r : Refusal) → v ≡ verdict.Refused r → numberOfVerdict v ≡ 0 → ⊥
+not-answered v r e z = omega (arith, number-positive r, ap numberOfVerdict e)
+
+pub recognised-once : (ps : List Pair) (v v′ : Verdict) → Recognised ps v → Recognised ps v′ → v ≡ v′
+recognised-once ps v v′ h k = by (answered v) (answered v′)
+  where
+    numbers : numberOfVerdict v ≡ numberOfVerdict v′
+    numbers = first-once (out-of-range ps ∷ []) (numberOfVerdict v) (numberOfVerdict v′) (h .refusal) (k .refusal)
+
+    by : (numberOfVerdict v ≡ 0) ⊎ ((r : Refusal) × (v ≡ verdict.Refused r)) → (numberOfVerdict v′ ≡ 0) ⊎ ((r : Refusal) × (v′ ≡ verdict.Refused r)) → v ≡ v′
+    by (inl a) (inl b) = verdict-once (legPolynomial ps) v v′ (h .verdict a) (k .verdict b)
+    by (inl a) (inr (r, e)) = absurd (not-answered v′ r e (sym numbers ∙ a))
+    by (inr (r, e)) (inl b) = absurd (not-answered v r e (numbers ∙ b))
+    by (inr (r, e)) (inr (r′, e′)) = e ∙ ap verdict.Refused (number-once r r′ (ap numberOfVerdict (sym e) ∙ numbers ∙ ap numberOfVerdict e′)) ∙ sym e′

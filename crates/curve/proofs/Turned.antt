@@ -1,0 +1,70 @@
+-- Pairs and polynomials turned by a unit, and the signs of κ and w.
+--   turned-within, opposite-within     i a and −a are no larger than a
+--   opposite-some, turned-some         nor are they 0 where a is not
+--   turned-all                         and i w is no larger than w
+--   turned-twice                       i (i w) is −w
+--   lead-of                            where w keeps its sign, so does its highest coefficient
+--   preimage-of                        D = κ w² with the signs of the rules is the pre-image of D
+use mathlib.Core.Path.{_≡_, sym, ap, _∙_, subst}
+use mathlib.Core.List.{List}
+use mathlib.Core.Logic.{_≢_, ⊎-elim}
+use native.Mathlib.Nat.{le-trans, le-of-eq}
+use Prim.Native.Nat.{ℕ}
+use lib.IntN.{pos, negsuc, negℤ, negℤ-negℤ}
+use Rattle.whole.specs.Poly.{at, Same, scaled, square}
+use Rattle.whole.specs.Number.{FirstPositive}
+use Rattle.whole.proofs.Integers.{abs-negative}
+use Rattle.whole.proofs.Linear.{linear}
+use Rattle.poly.specs.Terms.{Top}
+use Rattle.poly.proofs.Lists.{at-scaled, scaled-same, scaled-scaled, square-same}
+use Rattle.poly.proofs.Content.{primitive-same}
+use Rattle.poly.proofs.Top.{top-unique}
+use Rattle.pair.specs.declared.Pair.{Pair}
+use Rattle.pair.specs.Pairs.{pair, pairs, times, negative, imaginary, PartsWithin, AllWithin}
+use Rattle.pair.proofs.Parts.{pair-equal, turned-parts}
+use Rattle.pair.proofs.Laws.{pairs-ring, pairs-domain}
+use Rattle.root.specs.Pairs.{quadratic, LeadKept}
+use Rattle.curve.specs.declared.Preimage.{Preimage}
+use Rattle.curve.specs.Verdicts.{Coprime, Generated, SquareOf, PreimageOf}
+use Rattle.curve.specs.Steps.{Normalised}
+use Rattle.curve.proofs.Coprime.{coprime-primitive, primitive-coprime, unit-coprime}
+use Rattle.curve.proofs.Generators.{generated-scaled}
+use Rattle.curve.proofs.Signs.{first-top}
+
+pub opposite-within : {B : ℕ} {a : Pair} → PartsWithin B a → PartsWithin B (negative a)
+opposite-within {a} h = record {
+  re = record { size = le-trans (le-of-eq (abs-negative (a .re))) (h .re .size) };
+  im = record { size = le-trans (le-of-eq (abs-negative (a .im))) (h .im .size) };
+}
+
+pub opposite-some : {a : Pair} → a ≢ pairs .none → negative a ≢ pairs .none
+opposite-some {a} n z =
+    n (pair-equal (sym (negℤ-negℤ (a .re)) ∙ ap (λ b. negℤ (b .re)) z) (sym (negℤ-negℤ (a .im)) ∙ ap (λ b. negℤ (b .im)) z))
+
+pub imaginary-some : imaginary ≢ pairs .none
+imaginary-some z = let t : pos 1 ≡ pos 0 = ap (λ a. a .im) z in omega linear
+
+pub turned-some : {a : Pair} → a ≢ pairs .none → times imaginary a ≢ pairs .none
+turned-some {a} n z = ⊎-elim imaginary-some n (pairs-domain .splits imaginary a z)
+
+pub turned-within : {B : ℕ} {a : Pair} → PartsWithin B a → PartsWithin B (times imaginary a)
+turned-within {a} h = rw (turned-parts a) (record { re = opposite-within h .im; im = h .re })
+
+pub turned-all : {B : ℕ} (w v : List Pair) → Same pairs v (scaled pairs imaginary w) → AllWithin B w → AllWithin B v
+turned-all w v e h k = rw (e k ∙ at-scaled pairs-ring imaginary w k) (turned-within (h k))
+
+pub turned-twice : (w v x : List Pair) → Same pairs v (scaled pairs imaginary w) → Same pairs x (scaled pairs imaginary v)
+    → Same pairs x (scaled pairs (pair (negsuc 0) (pos 0)) w)
+turned-twice w v x e f k = f k ∙ scaled-same pairs-ring imaginary v (scaled pairs imaginary w) e k ∙ scaled-scaled pairs-ring imaginary imaginary w k
+
+pub lead-of : {w : List Pair} {m : ℕ} → Top pairs w m → LeadKept w → FirstPositive (at pairs w m .re) (at pairs w m .im)
+lead-of {w} t h = subst (λ (k : ℕ). FirstPositive (at pairs w k .re) (at pairs w k .im)) (top-unique (first-top h) t) (h .positive)
+
+pub preimage-of : (D w : List Pair) (κ : Pair) (p : Preimage) → Generated D κ w → Coprime w → SquareOf D (p .square) → Normalised κ w p → PreimageOf D p
+preimage-of D w κ p e c s h = record {
+  generated = λ k. generated-scaled D κ (p .kappa) (h .unit) w (h .kept) e k ∙ scaled-same pairs-ring (p .kappa) (square pairs (scaled pairs (h .unit) w)) (square pairs (quadratic (p .w))) (λ j. sym (square-same pairs-ring (quadratic (p .w)) (scaled pairs (h .unit) w) (h .turned) j)) k;
+  coprime = primitive-coprime (quadratic (p .w)) (primitive-same (scaled pairs (h .unit) w) (quadratic (p .w)) (λ k. sym (h .turned k)) (coprime-primitive (scaled pairs (h .unit) w) (unit-coprime (h .unit) w (h .is-unit) c)));
+  factor = h .factor;
+  lead = h .lead;
+  square-of = s;
+}

@@ -1,0 +1,4 @@
+pub mod Curves
+pub mod Verdicts
+pub mod Promise
+pub mod Steps

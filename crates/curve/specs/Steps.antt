@@ -1,0 +1,124 @@
+-- The steps of recognition: what each part of it computes.
+--   cubicPart, quinticPart     a part of D, from that part of the legs
+--   polynomial, Draws          the polynomial that the parts hold; that it is D of these points
+--   OfCurve D                  D is that of a curve in range
+--   PairShares, PairsDivided   the same for pairs
+--   Squarely D l s             and it is not 0, l is its highest power, and N = c q²
+--   Slight                     a part of D of a curve in range: no coefficient above 1,280,000 in size
+--   IsHighest                  the highest power of a polynomial, or that it is 0
+--   Leads, Content             a polynomial is not 0; the greatest common divisor of its coefficients
+--   Shares, Divided            c divides n; a polynomial divided by c
+use mathlib.Core.Path.{_≡_}
+use mathlib.Core.List.{List, [], _∷_}
+use mathlib.Core.Logic.{_≢_}
+use Prim.Native.Nat.{ℕ, _≤_}
+use lib.IntN.{ℤ, pos, negsuc, _-ℤ_, _*ℤ_}
+use lib.ListN.{length}
+use lib.Signed.{_<ℤ_}
+use Rattle.whole.specs.Number.{wholes, Within, FirstPositive}
+use Rattle.whole.specs.Poly.{at, Same, scaled, Divides, Greatest}
+use Rattle.pair.specs.declared.Pair.{Pair}
+use Rattle.pair.specs.Pairs.{pair, pairs, times, norm, PartsWithin, AllWithin}
+use Rattle.root.specs.declared.Quartic.{Quartic}
+use Rattle.root.specs.Search.{Each}
+use Rattle.root.specs.Pairs.{quadratic, LeadKept}
+use Rattle.poly.specs.Terms.{Top}
+use Rattle.root.specs.Roots.{Sized}
+use Rattle.curve.specs.declared.Highest.{Highest}
+use Rattle.curve.specs.declared.Highest.the-variants.{Power, Zero}
+use Rattle.curve.specs.declared.Legs.{Legs}
+use Rattle.curve.specs.declared.Square.{Square}
+use Rattle.curve.specs.declared.Preimage.{Preimage}
+use Rattle.curve.specs.Curves.{InRange, legPolynomial}
+use Rattle.curve.specs.Verdicts.{SquareOf}
+
+abbrev pub Coordinates : List ℤ → Type 0
+Coordinates [] = Unit {0}
+Coordinates (x ∷ xs) = Within 20000 x × Coordinates xs
+
+-- by the table of differences of the legs: each power coefficient is a binomial coefficient times the first of a row
+abbrev pub cubicPart : ℤ → ℤ → ℤ → Quartic
+cubicPart d0 d1 d2 = record { q0 = d0; q1 = (d1 -ℤ d0) *ℤ pos 2; q2 = (d2 -ℤ d1) -ℤ (d1 -ℤ d0); q3 = pos 0; q4 = pos 0 }
+
+abbrev pub quinticPart : ℤ → ℤ → ℤ → ℤ → ℤ → Quartic
+quinticPart d0 d1 d2 d3 d4 =
+    let a0 = d1 -ℤ d0 in
+    let a1 = d2 -ℤ d1 in
+    let a2 = d3 -ℤ d2 in
+    let a3 = d4 -ℤ d3 in
+    let b0 = a1 -ℤ a0 in
+    let b1 = a2 -ℤ a1 in
+    let b2 = a3 -ℤ a2 in
+    record { q0 = d0; q1 = a0 *ℤ pos 4; q2 = b0 *ℤ pos 6; q3 = (b1 -ℤ b0) *ℤ pos 4; q4 = (b2 -ℤ b1) -ℤ (b1 -ℤ b0) }
+
+abbrev pub polynomial : Legs → List Pair
+polynomial d =
+    pair (d .re .q0) (d .im .q0) ∷ pair (d .re .q1) (d .im .q1) ∷ pair (d .re .q2) (d .im .q2) ∷ pair (d .re .q3) (d .im .q3) ∷ pair (d .re .q4) (d .im .q4) ∷ []
+
+abbrev pub Draws : Legs → List Pair → Type 0
+Draws d ps = Same pairs (polynomial d) (legPolynomial ps)
+
+abbrev pub Slight : List ℤ → Type 0
+Slight p = (k : ℕ) → Within 1280000 (at wholes p k)
+
+abbrev pub IsHighest : List Pair → Highest → Type 0
+IsHighest D (Power k) = Top pairs D k × (k ≤ 4)
+IsHighest D Zero = Same pairs D []
+
+pub record Leads (p : List ℤ) : Type 0 where
+  pub power : ℕ
+  pub top : Top wholes p power
+
+pub record Content (p : List ℤ) (c : ℤ) : Type 0 where
+  pub positive : pos 0 <ℤ c
+  pub small : Within 10000000000000 c
+  pub greatest : Greatest wholes p c
+
+pub record Shares (n c : ℤ) : Type 0 where
+  pub whole : Divides wholes c n
+  pub positive : pos 0 <ℤ c
+  pub n-small : Within 10000000000000 n
+  pub c-small : Within 10000000000000 c
+
+pub record Divided (N : List ℤ) (c : ℤ) (M : List ℤ) : Type 0 where
+  pub multiple : Same wholes (scaled wholes c M) N
+  pub sized : Each wholes Sized M
+
+pub record OfCurve (D : List Pair) : Type 0 where
+  pub points : List Pair
+  pub range : InRange points
+  pub short : length points ≤ 6
+  pub same : Same pairs D (legPolynomial points)
+
+pub record Squarely (D : List Pair) (l : ℕ) (s : Square) : Type 0 where
+  pub of-curve : OfCurve D
+  pub top : Top pairs D l
+  pub low : l ≤ 4
+  pub square-of : SquareOf D s
+
+pub record PairShares (a g : Pair) : Type 0 where
+  pub whole : Divides pairs g a
+  pub nonzero : g ≢ pairs .none
+  pub a-small : PartsWithin 1280000 a
+  pub g-small : PartsWithin 1280000 g
+
+pub record PairsDivided (D : List Pair) (g : Pair) (E : List Pair) : Type 0 where
+  pub multiple : Same pairs (scaled pairs g E) D
+  pub small : AllWithin 1280000 E
+
+-- v is i w or −i w
+pub record TurnedRoot (w v : List Pair) : Type 0 where
+  pub unit : Pair
+  pub is-unit : norm unit ≡ pos 1
+  pub square : times unit unit ≡ pair (negsuc 0) (pos 0)
+  pub turned : Same pairs v (scaled pairs unit w)
+  pub lead : LeadKept v
+
+-- κ w², as κ/u² (u w)² for a unit u that gives both the signs of the rules
+pub record Normalised (κ : Pair) (w : List Pair) (p : Preimage) : Type 0 where
+  pub unit : Pair
+  pub is-unit : norm unit ≡ pos 1
+  pub kept : times (p .kappa) (times unit unit) ≡ κ
+  pub turned : Same pairs (quadratic (p .w)) (scaled pairs unit w)
+  pub factor : FirstPositive (p .kappa .re) (p .kappa .im)
+  pub lead : LeadKept (quadratic (p .w))

@@ -1,0 +1,6 @@
+pub mod Squared
+pub mod Candidates
+pub mod Downward
+pub mod Quadratics
+pub mod Shifting
+pub mod Once

@@ -1,0 +1,165 @@
+-- `root::quartic_root` meets its contract. Where there is a root, its lead is that of the candidate, up to the sign, so the candidate is a root too.
+use mathlib.Core.Path.{_≡_, sym, ap, _∙_, subst}
+use Prim.Native.Nat.{ℕ, zero, suc, _*_, _≤_, _<_}
+use native.Mathlib.Decide.{decLt}
+use native.Mathlib.Nat.{mul-le-mul}
+use native.Mathlib.Omega.{arith}
+use borrow.Author.Needs.{needs}
+use lib.Dec.{lit<}
+use lib.IntN.{ℤ, pos, negℤ, natAbs, ℤ-discrete, _*ℤ_}
+use lib.Signed.{_≤ℤ_, _<ℤ_}
+use mir.Syntax.{w64}
+use mir.Val.{SFits, toZ}
+use mir.ValLaws.{toZ-ofZ, toZ-pos}
+use Rattle.whole.specs.Number.{wholes, Tells}
+use Rattle.whole.specs.Poly.{at}
+use Rattle.whole.specs.Roots.{IsRoot}
+use Rattle.whole.proofs.Bound.{fits-within}
+use Rattle.whole.proofs.Integers.{abs-negative, abs-times}
+use Rattle.whole.proofs.Linear.{linear}
+use Rattle.whole.proofs.Machine.{cast-asks}
+use Rattle.whole.proofs.Order.{nonneg-is, nonneg-square}
+use Rattle.whole.proofs.Wholes.{wholes-ring}
+use Rattle.poly.proofs.Roots.{root-lead}
+use Rattle.poly.proofs.Wholes.{wholes-domain}
+use Rattle.root.specs.declared.Nine.{Nine}
+use Rattle.root.specs.declared.Quartic.{Quartic}
+use Rattle.root.specs.Search.{Candidate}
+use Rattle.root.specs.Roots.{nine, quartic, Small, Positive}
+use Rattle.root.proofs.Candidates.{candidate-decides, candidate-lead}
+use Rattle.root.proofs.Downward.{quartic-above}
+use Rattle.root.proofs.quartic_root.Statement.{statement}
+use Rattle.root.proofs.quartic_root.Tie as tie
+
+zero? : (a : ℤ) → Dec (a ≡ pos 0)
+zero? a = ℤ-discrete a (pos 0)
+
+flipped : (a : ℤ) → Small a → Small (negℤ a)
+flipped a h = record { size = rw abs-negative (h .size) }
+
+m8-fits : (s : tie.Start) → SFits w64 (s .args .m .m8)
+m8-fits s = fits-within (lit< tt) (s .pre .0 8)
+
+returns : tie.Need-returns
+returns c x b h =
+    let s = c .before .before in
+    let l = simp (toZ-ofZ, m8-fits s) at (c .if1 .taken) in
+    let e = root-lead wholes-ring wholes-domain zero? 4 (s .pre .1) x h in
+    omega (linear, nonneg-square (at wholes x 4))
+
+nonneg : (c : tie.Else1) → pos 0 ≤ℤ c .before .before .args .m .m8
+nonneg c = let l = simp (toZ-ofZ, m8-fits (c .before .before)) at (c .if1 .left) in omega linear
+
+cast-square-root : tie.Need-cast-square-root
+cast-square-root c = let f = m8-fits (c .before .before) in simp (toZ-ofZ, f) (cast-asks (nonneg c) f)
+
+square-root-requires : tie.Need-square-root-requires
+square-root-requires c κs = search needs
+
+rooted : (c : tie.After-square-root) → IsRoot (natAbs (c .before .before .before .args .m .m8)) (c .square-root .result)
+rooted c = let f = m8-fits (c .before .before .before) in simp (toZ-ofZ, f) at (c .square-root .ensures)
+
+enum-known-s : tie.Need-enum-known-s
+enum-known-s c = search needs
+
+enum-told : tie.Need-enum-told
+enum-told c = search needs
+
+returns-2 : tie.Need-returns-2
+returns-2 c x b h =
+    let s = c .before .before .before .before .before in
+    subst (IsRoot _) (c .enum-told .given .1) (rooted (c .before .before)) (natAbs (at wholes x 4))
+    (sym (abs-times (at wholes x 4) (at wholes x 4)) ∙ ap natAbs (root-lead wholes-ring wholes-domain zero? 4 (s .pre .1) x h))
+
+-- a square of at most 10^13
+root-size : (k : ℕ) → k * k ≤ 10000000000000 → k ≤ 20000000
+root-size k h = by (decLt 20000000 k)
+  where
+    by : Dec (20000000 < k) → k ≤ 20000000
+    by (yes l) = absurd (omega (arith, mul-le-mul l l))
+    by (no l) = omega arith
+
+-- the root of the highest coefficient
+module _ (c : tie.After-known-told) where
+  abbrev o : tie.Start
+  o = c .before .before .before .before .before .before
+
+  abbrev m : Nine
+  m = o .args .m
+
+  abbrev root : ℕ
+  root = c .before .s .given .0 .0
+
+  squared : root * root ≡ natAbs (m .m8)
+  squared = subst (IsRoot _) (c .before .s .given .1) (rooted (c .before .before .before))
+
+  lead : pos root *ℤ pos root ≡ m .m8
+  lead = ap pos squared ∙ sym (nonneg-is (nonneg (c .before .before .before .before)))
+
+  small : root ≤ 20000000
+  small = root-size root (omega (arith, squared, o .pre .0 8 .size))
+
+  some : pos 0 <ℤ pos root
+  some = by root lead
+    where
+      by : (k : ℕ) → pos k *ℤ pos k ≡ m .m8 → pos 0 <ℤ pos k
+      by zero e = absurd (o .pre .1 .lead (sym e))
+      by (suc k) e = omega linear
+
+  s-is : toZ w64 root ≡ pos root
+  s-is = toZ-pos w64 root (omega (arith, small))
+
+cast-candidate : tie.Need-cast-candidate
+cast-candidate c = omega (linear, small c)
+
+candidate-requires : tie.Need-candidate-requires
+candidate-requires c κs = rw (s-is c) (o c .pre .0, record { size = small c }, λ e. let p = some c in omega linear)
+
+-- what was found below it
+module _ (c : tie.After-candidate) where
+  abbrev q : Quartic
+  q = c .candidate .result
+
+  found : Candidate wholes Small (nine (m (c .before))) 4 (pos (root (c .before))) (quartic q)
+  found = rw (s-is (c .before)) at (c .candidate .ensures)
+
+square-requires : tie.Need-square-requires
+square-requires c κs = c .candidate .ensures .small
+
+same-requires : tie.Need-same-requires
+same-requires c κs = search needs
+
+returns-3 : tie.Need-returns-3
+returns-3 c =
+    let p = c .before .before .before in
+    let equal = subst (Tells _) (c .if2 .taken) (c .before .same .ensures) in
+    record {
+      squared = λ k. c .before .before .square .ensures k ∙ equal k;
+      lead = candidate-lead Positive (found p) (some (p .before)) (quartic-above (q p));
+      small = found p .small;
+    }
+
+returns-4 : tie.Need-returns-4
+returns-4 c x b h =
+    let p = c .before .before .before in
+    let s = p .before in
+    subst (Tells _) (c .if2 .left) (c .before .same .ensures)
+    (λ k. sym (c .before .before .square .ensures k)
+    ∙ candidate-decides wholes-ring wholes-domain zero? Small flipped 4 (o s .pre .1) (lead s) (found p) x b h k)
+
+pub quartic-root-spec : {M : Type 1} → statement M
+quartic-root-spec =
+    tie.close
+    (tie.spec
+    returns
+    cast-square-root
+    square-root-requires
+    enum-known-s
+    enum-told
+    returns-2
+    cast-candidate
+    candidate-requires
+    square-requires
+    same-requires
+    returns-3
+    returns-4)
