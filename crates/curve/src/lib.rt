@@ -481,9 +481,11 @@ fn normalised(k: Pair, w: Quadratic, s: Square) -> Preimage
             square: s,
         };
     }
+    let n = negative(k);
+    let v = turned_root(w);
     Preimage {
-        kappa: negative(k),
-        w: turned_root(w),
+        kappa: n,
+        w: v,
         square: s,
     }
 }
@@ -498,7 +500,8 @@ fn rooted(e: Five, l: u64, s: Square, g: Pair) -> Verdict
         let PairRoot::Root(v) = pair_root(turned_five(f), l) else {
             return Verdict::Ph(s);
         };
-        return Verdict::Pre(normalised(negative(turned(g)), v, s));
+        let k = negative(turned(g));
+        return Verdict::Pre(normalised(k, v, s));
     };
     Verdict::Pre(normalised(g, w, s))
 }
