@@ -4,7 +4,7 @@
 --   turned-all                         and i w is no larger than w
 --   turned-twice                       i (i w) is −w
 --   lead-of                            where w keeps its sign, so does its highest coefficient
---   preimage-of                        D = κ w² with the signs of the rules is the pre-image of D
+--   pre-holds                          D = κ w² with the signs of the rules: the verdict is pre
 use mathlib.Core.Path.{_≡_, sym, ap, _∙_, subst}
 use mathlib.Core.List.{List}
 use mathlib.Core.Logic.{_≢_, ⊎-elim}
@@ -25,7 +25,8 @@ use Rattle.pair.proofs.Parts.{pair-equal, turned-parts}
 use Rattle.pair.proofs.Laws.{pairs-ring, pairs-domain}
 use Rattle.root.specs.Pairs.{quadratic, LeadKept}
 use Rattle.curve.specs.declared.Preimage.{Preimage}
-use Rattle.curve.specs.Verdicts.{Coprime, Generated, SquareOf, PreimageOf}
+use Rattle.curve.specs.declared.Verdict.the-variants as verdict
+use Rattle.curve.specs.Verdicts.{Still, Coprime, Generated, SquareOf, Holds}
 use Rattle.curve.specs.Steps.{Normalised}
 use Rattle.curve.proofs.Coprime.{coprime-primitive, primitive-coprime, unit-coprime}
 use Rattle.curve.proofs.Generators.{generated-scaled}
@@ -60,11 +61,15 @@ turned-twice w v x e f k = f k ∙ scaled-same pairs-ring imaginary v (scaled pa
 pub lead-of : {w : List Pair} {m : ℕ} → Top pairs w m → LeadKept w → FirstPositive (at pairs w m .re) (at pairs w m .im)
 lead-of {w} t h = subst (λ (k : ℕ). FirstPositive (at pairs w k .re) (at pairs w k .im)) (top-unique (first-top h) t) (h .positive)
 
-pub preimage-of : (D w : List Pair) (κ : Pair) (p : Preimage) → Generated D κ w → Coprime w → SquareOf D (p .square) → Normalised κ w p → PreimageOf D p
-preimage-of D w κ p e c s h = record {
-  generated = λ k. generated-scaled D κ (p .kappa) (h .unit) w (h .kept) e k ∙ scaled-same pairs-ring (p .kappa) (square pairs (scaled pairs (h .unit) w)) (square pairs (quadratic (p .w))) (λ j. sym (square-same pairs-ring (quadratic (p .w)) (scaled pairs (h .unit) w) (h .turned) j)) k;
-  coprime = primitive-coprime (quadratic (p .w)) (primitive-same (scaled pairs (h .unit) w) (quadratic (p .w)) (λ k. sym (h .turned k)) (coprime-primitive (scaled pairs (h .unit) w) (unit-coprime (h .unit) w (h .is-unit) c)));
-  factor = h .factor;
-  lead = h .lead;
-  square-of = s;
-}
+pub pre-holds : (D w : List Pair) (κ : Pair) (p : Preimage) → (Still D → ⊥) → Generated D κ w → Coprime w → SquareOf D (p .square) → Normalised κ w p
+    → Holds D (verdict.Pre p)
+pre-holds D w κ p n e c s h = (
+  n,
+  record {
+    generated = λ k. generated-scaled D κ (p .kappa) (h .unit) w (h .kept) e k ∙ scaled-same pairs-ring (p .kappa) (square pairs (scaled pairs (h .unit) w)) (square pairs (quadratic (p .w))) (λ j. sym (square-same pairs-ring (quadratic (p .w)) (scaled pairs (h .unit) w) (h .turned) j)) k;
+    coprime = primitive-coprime (quadratic (p .w)) (primitive-same (scaled pairs (h .unit) w) (quadratic (p .w)) (λ k. sym (h .turned k)) (coprime-primitive (scaled pairs (h .unit) w) (unit-coprime (h .unit) w (h .is-unit) c)));
+    factor = h .factor;
+    lead = h .lead;
+    square-of = s;
+  },
+)

@@ -1,6 +1,7 @@
 -- `curve::rooted` meets its contract: D = g f has a pre-image just where f or i f is a square.
 use mathlib.Core.Path.{_≡_, sym, ap, _∙_, subst, refl}
 use mathlib.Core.List.{List}
+use mathlib.Core.Logic.{_≢_}
 use borrow.Author.Needs.{needs}
 use lib.Dec.{lit≤}
 use lib.IntN.{pos}
@@ -19,7 +20,7 @@ use Rattle.curve.specs.Verdicts.{Still, SquareOf}
 use Rattle.curve.specs.Steps.{PairsDivided, Squarely}
 use Rattle.curve.proofs.Known.{pairs-slight, generators-small}
 use Rattle.curve.proofs.Generators.{root-generates, turned-root-generates, no-roots-not-generated, root-coprime}
-use Rattle.curve.proofs.Turned.{imaginary-some, opposite-within, opposite-some, turned-some, turned-within, turned-all, preimage-of}
+use Rattle.curve.proofs.Turned.{imaginary-some, opposite-within, opposite-some, turned-some, turned-within, turned-all, pre-holds}
 use Rattle.curve.proofs.rooted.Statement.{statement}
 use Rattle.curve.proofs.rooted.Tie as tie
 
@@ -119,20 +120,22 @@ factor-is c = c .negative .ensures ∙ ap negative (c .before .turned .ensures)
 normalised-requires : tie.Need-normalised-requires
 normalised-requires c κs =
     let s = d (c .before .before) .before in
-    let root = turned-root (c .before .before) in
-    (rw (factor-is c) (opposite-within (turned-within (g-small s))), rw (factor-is c) (opposite-some (turned-some (s .pre .2))), root .small, root .lead)
+    let root = turned-root (c .before .before) in (
+      subst (PartsWithin 1280000) (sym (factor-is c)) (opposite-within (turned-within (g-small s))),
+      subst (λ (k : Pair). k ≢ pairs .none) (sym (factor-is c)) (opposite-some (turned-some (s .pre .2))),
+      root .small,
+      root .lead,
+    )
 
 returns-2 : tie.Need-returns-2
 returns-2 c =
     let t = c .before .before .before in
     let s = d t .before in
-    let h = c .normalised .ensures in (
-      moves s,
-      preimage-of (D s) (v t) (c .before .negative .result) (c .normalised .result)
-          (rw (factor-is (c .before)) (turned-root-generates (D s) (f (d t)) (v t) (g s) (shared (d t) .multiple) (turned-squared t)))
-          (root-coprime (D s) (f (d t)) (v t) (g s) imaginary (s .pre .1) (s .pre .2) (shared (d t) .multiple) (turned-squared t) refl)
-          (subst (SquareOf (D s)) (sym (h .1)) (squarely s .square-of)) (h .0),
-    )
+    let h = c .normalised .ensures in
+    pre-holds (D s) (v t) (c .before .negative .result) (c .normalised .result) (moves s)
+    (rw (factor-is (c .before)) (turned-root-generates (D s) (f (d t)) (v t) (g s) (shared (d t) .multiple) (turned-squared t)))
+    (root-coprime (D s) (f (d t)) (v t) (g s) imaginary (s .pre .1) (s .pre .2) (shared (d t) .multiple) (turned-squared t) refl)
+    (subst (SquareOf (D s)) (sym (h .1)) (squarely s .square-of)) (h .0)
 
 -- ---- with a root w of f
 module _ (c : tie.After-known-told) where
@@ -153,13 +156,11 @@ returns-3 c =
     let t = c .before in
     let s = b t .before in
     let h = c .normalised2 .ensures in
-    let squared = plain-root t .squared in (
-      moves s,
-      preimage-of (D s) (w t) (g s) (c .normalised2 .result)
-          (root-generates (D s) (f (b t)) (w t) (g s) (shared (b t) .multiple) squared)
-          (root-coprime (D s) (f (b t)) (w t) (g s) (pair (pos 1) (pos 0)) (s .pre .1) (s .pre .2) (shared (b t) .multiple) (λ k. squared k ∙ sym (scaled-one pairs-ring (f (b t)) k)) refl)
-          (subst (SquareOf (D s)) (sym (h .1)) (squarely s .square-of)) (h .0),
-    )
+    let squared = plain-root t .squared in
+    pre-holds (D s) (w t) (g s) (c .normalised2 .result) (moves s)
+    (root-generates (D s) (f (b t)) (w t) (g s) (shared (b t) .multiple) squared)
+    (root-coprime (D s) (f (b t)) (w t) (g s) (pair (pos 1) (pos 0)) (s .pre .1) (s .pre .2) (shared (b t) .multiple) (λ k. squared k ∙ sym (scaled-one pairs-ring (f (b t)) k)) refl)
+    (subst (SquareOf (D s)) (sym (h .1)) (squarely s .square-of)) (h .0)
 
 pub rooted-spec : {M : Type 1} → statement M
 rooted-spec =
