@@ -2,12 +2,14 @@
 --   cubicPart, quinticPart     a part of D, from that part of the legs
 --   polynomial, Draws          the polynomial that the parts hold; that it is D of these points
 --   OfCurve D                  D is that of a curve in range
---   PairShares, PairsDivided   the same for pairs
---   Squarely D l s             and it is not 0, l is its highest power, and N = c q²
+--   Squarely D l s             besides, l is its highest power, and N = c q²
 --   Slight                     a part of D of a curve in range: no coefficient above 1,280,000 in size
 --   IsHighest                  the highest power of a polynomial, or that it is 0
 --   Leads, Content             a polynomial is not 0; the greatest common divisor of its coefficients
 --   Shares, Divided            c divides n; a polynomial divided by c
+--   PairShares, PairsDivided   the same for pairs
+--   TurnedRoot w v             v is i w or −i w, with the sign of the rule
+--   Normalised κ w p           p is κ w², with the signs of the rules
 use mathlib.Core.Path.{_≡_}
 use mathlib.Core.List.{List, [], _∷_}
 use mathlib.Core.Logic.{_≢_}
@@ -106,7 +108,6 @@ pub record PairsDivided (D : List Pair) (g : Pair) (E : List Pair) : Type 0 wher
   pub multiple : Same pairs (scaled pairs g E) D
   pub small : AllWithin 1280000 E
 
--- v is i w or −i w
 pub record TurnedRoot (w v : List Pair) : Type 0 where
   pub unit : Pair
   pub is-unit : norm unit ≡ pos 1
