@@ -19,3 +19,4 @@ pub mod Normal
 pub mod Cover
 pub mod Turned
 pub mod Known
+pub mod Examples

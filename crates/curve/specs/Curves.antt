@@ -5,15 +5,14 @@
 --   legPolynomial              D, for which r' = n D
 --   reals, imaginaries         the parts of a polynomial
 --   squaredLength              N
-use mathlib.Core.Path.{_≡_, refl}
 use mathlib.Core.List.{List, [], _∷_, map}
 use Prim.Native.Nat.{ℕ, zero, suc, _-_}
-use lib.IntN.{ℤ, pos, negsuc}
+use lib.IntN.{ℤ, pos}
 use lib.ListN.{length}
-use Rattle.whole.specs.Poly.{sum, scaled, product, square, choose}
+use Rattle.whole.specs.Poly.{sum, square, choose}
 use Rattle.whole.specs.Number.{wholes}
 use Rattle.pair.specs.declared.Pair.{Pair}
-use Rattle.pair.specs.Pairs.{pair, minus, multiple, PartsWithin}
+use Rattle.pair.specs.Pairs.{minus, multiple, PartsWithin}
 use Rattle.curve.specs.declared.Curve.{Curve}
 use Rattle.curve.specs.declared.Curve.the-variants.{Cubic, Quintic}
 
@@ -50,9 +49,3 @@ imaginaries = map (λ (z : Pair). z .im)
 
 unfoldable pub squaredLength : List Pair → List ℤ
 squaredLength D = sum wholes (square wholes (reals D)) (square wholes (imaginaries D))
-
--- document 01, case 3: N = 1 − 4t + 12t² − 16t³ + 8t⁴
-case3 : squaredLength (legPolynomial (pair (pos 0) (pos 0) ∷ pair (pos 1) (pos 0) ∷ pair (pos 1) (pos 1) ∷ pair (pos 2) (pos 1) ∷ []))
-    ≡ pos 1 ∷ negsuc 3 ∷ pos 12 ∷ negsuc 15 ∷ pos 8 ∷ []
-unfolding squaredLength legPolynomial powerForm powers differences choose sum scaled product
-case3 = refl
