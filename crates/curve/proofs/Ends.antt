@@ -1,4 +1,4 @@
--- N at the two ends of a curve: |first leg|² and |last leg|², whatever the number of points. The quick refusal rests on it.
+-- N at the two ends of a curve: |first leg|² and |last leg|², whatever the number of points. Where their product is no square, N is no c q².
 --   ends-square      where N = c q², |first leg|² |last leg|² is the square of c q(0) q(1)
 use mathlib.Core.Path.{_≡_, sym, ap, ap₂, _∙_, fun-ext}
 use mathlib.Core.List.{List, [], _∷_}

@@ -1,6 +1,7 @@
 -- Pairs and polynomials turned by a unit, and the signs of κ and w.
 --   turned-within, opposite-within     i a and −a are no larger than a
---   opposite-some, turned-some         nor are they 0 where a is not
+--   imaginary-some                     i is not 0
+--   opposite-some, turned-some         i a and −a are not 0 where a is not
 --   turned-all                         and i w is no larger than w
 --   turned-twice                       i (i w) is −w
 --   lead-of                            where w keeps its sign, so does its highest coefficient
