@@ -1,7 +1,7 @@
 -- The four verdicts cover everything.
 --   verdict-found      of D of degree at most 4 not every verdict fails
 --   recognised-found   of no curve does every answer break the promise of `recognise`
-use mathlib.Core.Path.{_≡_, refl}
+use mathlib.Core.Path.{refl}
 use mathlib.Core.List.{List}
 use mathlib.Core.Logic.{inl, inr}
 use native.Mathlib.Omega.{arith}
@@ -14,18 +14,11 @@ use Rattle.curve.specs.declared.Curve.{Curve}
 use Rattle.curve.specs.declared.Verdict.{Verdict}
 use Rattle.curve.specs.declared.Verdict.the-variants as verdict
 use Rattle.curve.specs.Curves.{pointsOf, InRange, legPolynomial}
-use Rattle.curve.specs.Verdicts.{Still, Holds, numberOfVerdict}
+use Rattle.curve.specs.Verdicts.{Still, Holds}
 use Rattle.curve.specs.Promise.{Recognised}
 use Rattle.curve.proofs.LegPolynomial.{pointsOf-length, legPolynomial-fourth}
 use Rattle.curve.proofs.Normal.{square-found, preimage-found}
-
--- what holds is no refusal
-holds-answered : (D : List Pair) (v : Verdict) → Holds D v → numberOfVerdict v ≡ 0
-holds-answered D verdict.Still h = refl
-holds-answered D verdict.No h = refl
-holds-answered D (verdict.Ph s) h = refl
-holds-answered D (verdict.Pre p) h = refl
-holds-answered D (verdict.Refused r) h = absurd h
+use Rattle.curve.proofs.Known.{holds-number}
 
 -- D is not 0; so N is not c q² for any c and q: if it were, D would not be κ w² for any κ and w, and the verdict would be ph
 pub verdict-found : (D : List Pair) → Above pairs (at pairs D) 4 → ((v : Verdict) → Holds D v → ⊥) → ⊥
@@ -44,7 +37,7 @@ pub recognised-found : (curve : Curve) → ((v : Verdict) → Recognised (points
 recognised-found curve none = none (verdict.Refused R.Range) (record { refusal = inl (not-in-range, refl); verdict = λ e. absurd (omega arith) })
   where
     answer : InRange (pointsOf curve) → (v : Verdict) → Holds (legPolynomial (pointsOf curve)) v → ⊥
-    answer i v h = none v (record { refusal = inr (λ n. n i, holds-answered (legPolynomial (pointsOf curve)) v h); verdict = λ e. h })
+    answer i v h = none v (record { refusal = inr (λ n. n i, holds-number (legPolynomial (pointsOf curve)) v h); verdict = λ e. h })
 
     not-in-range : InRange (pointsOf curve) → ⊥
     not-in-range i = verdict-found (legPolynomial (pointsOf curve)) (legPolynomial-fourth (pointsOf curve) (pointsOf-length curve)) (answer i)

@@ -23,6 +23,7 @@ use Rattle.poly.proofs.Binomials.{choose-above}
 use Rattle.poly.proofs.Blends.{step, step-difference, steps, inPowers}
 use Rattle.pair.specs.declared.Pair.{Pair}
 use Rattle.pair.specs.Pairs.{pairs, minus, multiple, PartsWithin}
+use Rattle.pair.proofs.Parts.{zero-within}
 use Rattle.curve.specs.declared.Curve.{Curve}
 use Rattle.curve.specs.declared.Curve.the-variants.{Cubic, Quintic}
 use Rattle.curve.specs.Curves.{pointsOf, InRange, differences, powers, powerForm, legPolynomial}
@@ -108,9 +109,6 @@ module _ {part : Pair → ℤ} (P : Part part) where
       ∙ ap (λ m. inPowers wholes-ring m (λ i. part (at pairs (differences ps) i)) k) (omega (arith, differences-length ps))
 
 -- ---- sizes
-none-within : {b : ℕ} → PartsWithin b (pairs .none)
-none-within = record { re = record { size = zero-le }; im = record { size = zero-le } }
-
 minus-within : (a b : Pair) → PartsWithin 20000 a → PartsWithin 20000 b → PartsWithin 40000 (minus a b)
 minus-within a b h k = record {
   re = bounds (h .re ▸ k .re ▸ done) (λ ρ e b. simp (e 0, e 1, readℤ) (within b _ refl));
@@ -119,7 +117,7 @@ minus-within a b h k = record {
 
 pub legs-within : (ps : List Pair) → InRange ps → (i : ℕ) → PartsWithin 40000 (at pairs (differences ps) i)
 unfolding differences
-legs-within [] h i = none-within
-legs-within (p ∷ []) h i = none-within
+legs-within [] h i = zero-within
+legs-within (p ∷ []) h i = zero-within
 legs-within (p ∷ q ∷ ps) (hp, (hq, hs)) zero = minus-within q p hq hp
 legs-within (p ∷ q ∷ ps) (hp, hs) (suc i) = legs-within (q ∷ ps) hs i

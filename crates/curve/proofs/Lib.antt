@@ -1,3 +1,4 @@
+-- The theory of curves and verdicts, from what a flag tells up to what `recognise` cites.
 pub mod Flags
 pub mod Differences
 pub mod Lengths

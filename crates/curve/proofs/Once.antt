@@ -30,10 +30,9 @@ use Rattle.pair.proofs.Laws.{pairs-ring, pairs-domain, norm-nonneg}
 use Rattle.pair.proofs.Euclid.{pairs-bezout}
 use Rattle.pair.proofs.Roots.{not-both}
 use Rattle.pair.proofs.Units.{no-imaginary-square}
-use Rattle.root.specs.declared.Quartic.{Quartic}
 use Rattle.root.specs.Pairs.{quadratic, LeadKept}
-use Rattle.root.specs.declared.pairs.Quadratic.{Quadratic}
 use Rattle.root.specs.Roots.{quartic}
+use Rattle.root.proofs.Once.{quartic-same, quadratic-same}
 use Rattle.curve.specs.declared.Square.{Square}
 use Rattle.curve.specs.declared.Preimage.{Preimage}
 use Rattle.curve.specs.declared.Verdict.{Verdict}
@@ -47,9 +46,6 @@ use Rattle.curve.proofs.Norms.{generated-content}
 use Rattle.curve.proofs.Signs.{lead-once, lead-first-once, first-some, first-top}
 
 -- ---- c and q
-quartic-once : (p q : Quartic) → Same wholes (quartic p) (quartic q) → p ≡ q
-quartic-once p q e = λ i. record { q0 = e 0 i; q1 = e 1 i; q2 = e 2 i; q3 = e 3 i; q4 = e 4 i }
-
 positive-some : {c : ℤ} → pos 0 <ℤ c → c ≢ pos 0
 positive-some h z = omega linear
 
@@ -61,15 +57,12 @@ square-once D s t h k = λ i. record { c = c i; q = q i }
 
     q : s .q ≡ t .q
     q =
-        quartic-once (s .q) (t .q)
+        quartic-same (s .q) (t .q)
         (lead-once (quartic (s .q)) (quartic (t .q)) (h .lead) (k .lead)
         (scaled-squares-agree wholes-ring wholes-domain (s .c) (quartic (s .q)) (quartic (t .q)) (positive-some (h .positive))
         (λ j. sym (h .squared j) ∙ k .squared j ∙ ap (λ x. at wholes (scaled wholes x (square wholes (quartic (t .q)))) j) (sym c))))
 
 -- ---- κ and w
-quadratic-once : (v w : Quadratic) → Same pairs (quadratic v) (quadratic w) → v ≡ w
-quadratic-once v w e = λ i. record { b0 = e 0 i; b1 = e 1 i; b2 = e 2 i }
-
 pub generators-agree : (D : List Pair) (κ κ′ : Pair) (w w′ : List Pair) → Generated D κ w → Generated D κ′ w′ → Coprime w → Coprime w′
     → FirstPositive (κ .re) (κ .im) → FirstPositive (κ′ .re) (κ′ .im) → LeadKept w → LeadKept w′ → (κ ≡ κ′) × Same pairs w w′
 generators-agree D κ κ′ w w′ e e′ h h′ f f′ l l′ =
@@ -129,7 +122,7 @@ preimage-once D p p′ h k =
     let (κ, w) =
     generators-agree D (p .kappa) (p′ .kappa) (quadratic (p .w)) (quadratic (p′ .w)) (h .generated) (k .generated) (h .coprime) (k .coprime)
     (h .factor) (k .factor) (h .lead) (k .lead) in
-    λ i. record { kappa = κ i; w = quadratic-once (p .w) (p′ .w) w i; square = square-once D (p .square) (p′ .square) (h .square-of) (k .square-of) i }
+    λ i. record { kappa = κ i; w = quadratic-same (p .w) (p′ .w) w i; square = square-once D (p .square) (p′ .square) (h .square-of) (k .square-of) i }
 
 -- ---- verdicts
 pub verdict-once : (D : List Pair) (v v′ : Verdict) → Holds D v → Holds D v′ → v ≡ v′

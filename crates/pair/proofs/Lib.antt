@@ -1,3 +1,4 @@
+-- The theory of pairs: sizes, laws, division, divisors, roots, units.
 pub mod Parts
 pub mod Laws
 pub mod Division

@@ -1,3 +1,4 @@
+-- The definitions of pairs, and what the functions promise.
 pub mod Pairs
 pub mod Quotients
 pub mod Roots

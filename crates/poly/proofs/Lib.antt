@@ -1,3 +1,4 @@
+-- The theory of polynomials over any ring with the laws.
 pub mod Series
 pub mod Lists
 pub mod Value

@@ -1,1 +1,2 @@
+-- The words of the theorems.
 pub mod Terms

@@ -1,3 +1,4 @@
+-- The theory of roots, over any ring or domain, and one answer.
 pub mod Squared
 pub mod Candidates
 pub mod Downward

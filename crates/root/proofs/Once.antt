@@ -1,6 +1,7 @@
 -- Each promise has one answer.
 --   small-root-once     over any domain, where of a and −a at most one is positive and 0 is not: two small roots of M are the same
 --   square-once         a square has one set of coefficients
+--   quartic-same, quadratic-same     a struct is decided by its polynomial
 --   whole-root-once     `IsWholeRoot` has one answer
 --   pair-root-once      and so has `IsPairRoot`
 -- What the private steps promise leaves room where there is no root: any small number serves for a quotient that is not one.
@@ -47,7 +48,7 @@ module _ {A : Type 0} {C : Coefficients A} (R : Ring C) (D : Domain C) {Positive
 pub square-once : (q : Quartic) (a b : Nine) → IsSquare q a → IsSquare q b → a ≡ b
 square-once q a b h k = square-only q a h ∙ sym (square-only q b k)
 
-quartic-same : (p q : Quartic) → Same wholes (quartic p) (quartic q) → p ≡ q
+pub quartic-same : (p q : Quartic) → Same wholes (quartic p) (quartic q) → p ≡ q
 quartic-same p q e i = record { q0 = e 0 i; q1 = e 1 i; q2 = e 2 i; q3 = e 3 i; q4 = e 4 i }
 
 pub whole-root-once : (M : List ℤ) (r s : WholeRoot) → IsWholeRoot M r → IsWholeRoot M s → r ≡ s
@@ -58,7 +59,7 @@ whole-root-once M (Root p) NoRoot h k = absurd (k (quartic p) (h .small) (h .squ
 whole-root-once M NoRoot (Root q) h k = absurd (h (quartic q) (k .small) (k .squared))
 whole-root-once M NoRoot NoRoot h k = refl
 
-quadratic-same : (u w : Quadratic) → Same pairs (quadratic u) (quadratic w) → u ≡ w
+pub quadratic-same : (u w : Quadratic) → Same pairs (quadratic u) (quadratic w) → u ≡ w
 quadratic-same u w e i = record { b0 = e 0 i; b1 = e 1 i; b2 = e 2 i }
 
 pub pair-root-once : (E : List Pair) (r s : PairRoot) → IsPairRoot E r → IsPairRoot E s → r ≡ s

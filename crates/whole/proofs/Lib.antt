@@ -1,3 +1,4 @@
+-- The proof tools, and the laws behind the routines.
 pub mod Integers
 pub mod Ring
 pub mod Solver

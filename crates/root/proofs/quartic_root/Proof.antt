@@ -6,7 +6,7 @@ use native.Mathlib.Nat.{mul-le-mul}
 use native.Mathlib.Omega.{arith}
 use borrow.Author.Needs.{needs}
 use lib.Dec.{lit<}
-use lib.IntN.{ℤ, pos, negℤ, natAbs, ℤ-discrete, _*ℤ_}
+use lib.IntN.{ℤ, pos, negℤ, natAbs, _*ℤ_}
 use lib.Signed.{_≤ℤ_, _<ℤ_}
 use mir.Syntax.{w64}
 use mir.Val.{SFits, toZ}
@@ -21,7 +21,7 @@ use Rattle.whole.proofs.Machine.{cast-asks}
 use Rattle.whole.proofs.Order.{nonneg-is, nonneg-square}
 use Rattle.whole.proofs.Wholes.{wholes-ring}
 use Rattle.poly.proofs.Roots.{root-lead}
-use Rattle.poly.proofs.Wholes.{wholes-domain}
+use Rattle.poly.proofs.Wholes.{wholes-domain, whole-zero?}
 use Rattle.root.specs.declared.Nine.{Nine}
 use Rattle.root.specs.declared.Quartic.{Quartic}
 use Rattle.root.specs.Search.{Candidate}
@@ -30,9 +30,6 @@ use Rattle.root.proofs.Candidates.{candidate-decides, candidate-lead}
 use Rattle.root.proofs.Downward.{quartic-above}
 use Rattle.root.proofs.quartic_root.Statement.{statement}
 use Rattle.root.proofs.quartic_root.Tie as tie
-
-zero? : (a : ℤ) → Dec (a ≡ pos 0)
-zero? a = ℤ-discrete a (pos 0)
 
 flipped : (a : ℤ) → Small a → Small (negℤ a)
 flipped a h = record { size = rw abs-negative (h .size) }
@@ -44,7 +41,7 @@ returns : tie.Need-returns
 returns c x b h =
     let s = c .before .before in
     let l = simp (toZ-ofZ, m8-fits s) at (c .if1 .taken) in
-    let e = root-lead wholes-ring wholes-domain zero? 4 (s .pre .1) x h in
+    let e = root-lead wholes-ring wholes-domain whole-zero? 4 (s .pre .1) x h in
     omega (linear, nonneg-square (at wholes x 4))
 
 nonneg : (c : tie.Else1) → pos 0 ≤ℤ c .before .before .args .m .m8
@@ -69,7 +66,7 @@ returns-2 : tie.Need-returns-2
 returns-2 c x b h =
     let s = c .before .before .before .before .before in
     subst (IsRoot _) (c .enum-told .given .1) (rooted (c .before .before)) (natAbs (at wholes x 4))
-    (sym (abs-times (at wholes x 4) (at wholes x 4)) ∙ ap natAbs (root-lead wholes-ring wholes-domain zero? 4 (s .pre .1) x h))
+    (sym (abs-times (at wholes x 4) (at wholes x 4)) ∙ ap natAbs (root-lead wholes-ring wholes-domain whole-zero? 4 (s .pre .1) x h))
 
 -- a square of at most 10^13
 root-size : (k : ℕ) → k * k ≤ 10000000000000 → k ≤ 20000000
@@ -145,7 +142,7 @@ returns-4 c x b h =
     let s = p .before in
     subst (Tells _) (c .if2 .left) (c .before .same .ensures)
     (λ k. sym (c .before .before .square .ensures k)
-    ∙ candidate-decides wholes-ring wholes-domain zero? Small flipped 4 (o s .pre .1) (lead s) (found p) x b h k)
+    ∙ candidate-decides wholes-ring wholes-domain whole-zero? Small flipped 4 (o s .pre .1) (lead s) (found p) x b h k)
 
 pub quartic-root-spec : {M : Type 1} → statement M
 quartic-root-spec =
