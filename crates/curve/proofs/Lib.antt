@@ -18,6 +18,7 @@ pub mod Moved
 pub mod Points
 pub mod Normal
 pub mod Cover
+pub mod Refusals
 pub mod Turned
 pub mod Known
 pub mod Examples

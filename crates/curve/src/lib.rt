@@ -20,7 +20,7 @@ use root::pairs::Quadratic;
 use root::whole_root;
 ghost use Rattle.curve.specs.Curves.{pointsOf};
 ghost use Rattle.curve.specs.Verdicts.{Holds};
-ghost use Rattle.curve.specs.Promise.{Recognised};
+ghost use Rattle.curve.specs.Promise.{Recognised, Preimaged};
 ghost use Rattle.curve.specs.Steps.{polynomial, OfCurve};
 
 pub struct Cubic {
@@ -77,6 +77,11 @@ pub enum Verdict {
     Refused(Refusal),
 }
 
+pub enum PreimageAnswer {
+    Found(Preimage),
+    Refused(Refusal),
+}
+
 // The verdict on D.
 fn decide(d: Legs) -> Verdict
     requires { ⌜ OfCurve (polynomial d) ⌝ }
@@ -102,4 +107,17 @@ pub fn recognise(curve: Curve) -> Verdict
         return Verdict::Refused(Refusal::Range);
     }
     decide(drawn(curve))
+}
+
+// The pre-image, for the calls that measure a curve by it.
+pub fn preimage_of(curve: Curve) -> PreimageAnswer
+    ensures { λ r. ⌜ Preimaged (pointsOf curve) r ⌝ }
+{
+    match recognise(curve) {
+        Verdict::Still => PreimageAnswer::Refused(Refusal::Still),
+        Verdict::No => PreimageAnswer::Refused(Refusal::NotPh),
+        Verdict::Ph(_) => PreimageAnswer::Refused(Refusal::NoPreimage),
+        Verdict::Pre(p) => PreimageAnswer::Found(p),
+        Verdict::Refused(r) => PreimageAnswer::Refused(r),
+    }
 }
