@@ -83,7 +83,7 @@ pub fn square_root(n: u64) -> Root
 }
 
 // How far x is from zero. The least i64 has no negative, so 1 is added on the way.
-fn size(x: i64) -> u64
+pub fn size(x: i64) -> u64
     ensures { λ r. ⌜ r ≡ natAbs x ⌝ }
 {
     if x < 0 {

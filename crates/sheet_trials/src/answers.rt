@@ -1,16 +1,17 @@
 // Each call's answer on a sheet, as a line of text.
-use crate::text::say;
-use crate::text::say_number;
-use crate::text::say_point;
-use crate::text::say_refused;
-use crate::text::wide;
 use curve::Curve;
 use refusal::Refusal;
 use sheet::Change;
 use sheet::Checked;
 use sheet::Reading;
+use words::say;
+use words::say_curve;
+use words::say_number;
+use words::say_refused;
+use words::wide;
 
 fn say_refusal(r: Refusal, place: usize) {
+    say(b": ");
     say_refused(r);
     say(b" at ");
     say_number(place as u64);
@@ -28,31 +29,12 @@ pub(crate) fn checked(label: &[u8], bytes: &[u8]) {
     say(b"\n");
 }
 
-fn say_points(c: Curve) {
-    match c {
-        Curve::Cubic(c) => {
-            say_point(c.p0);
-            say_point(c.p1);
-            say_point(c.p2);
-            say_point(c.p3);
-        }
-        Curve::Quintic(c) => {
-            say_point(c.p0);
-            say_point(c.p1);
-            say_point(c.p2);
-            say_point(c.p3);
-            say_point(c.p4);
-            say_point(c.p5);
-        }
-    }
-}
-
 pub(crate) fn read(label: &[u8], bytes: &[u8], number: usize) {
     say(label);
     match sheet::read(bytes, number) {
         Reading::Points(c) => {
-            say(b":");
-            say_points(c);
+            say(b": ");
+            say_curve(c);
         }
         Reading::Refused(r, place) => say_refusal(r, place),
     }

@@ -1,0 +1,33 @@
+// What a lent number area holds.
+use words::say;
+use words::say_number;
+use words::say_signed;
+
+// How many zeros stand from a place on.
+fn zeros(area: &[i64], from: usize) -> usize {
+    let mut at = from;
+    while at < area.len() {
+        if area[at] != 0 {
+            return at - from;
+        }
+        at += 1;
+    }
+    at - from
+}
+
+fn say_numbers(area: &[i64], count: usize) {
+    let mut i: usize = 0;
+    while i < area.len() && i < count {
+        say(b" ");
+        say_signed(area[i]);
+        i += 1;
+    }
+}
+
+// The answer's numbers, and how many zeros there are behind them.
+pub(crate) fn say_area(area: &[i64], count: usize) {
+    say_numbers(area, count);
+    say(b" and ");
+    say_number(zeros(area, count) as u64);
+    say(b" zeros");
+}
