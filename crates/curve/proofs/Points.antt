@@ -1,5 +1,6 @@
 -- Still curves, of any number of points.
---   still-points     D = 0 exactly when all points are equal
+--   still-legs       D = 0 exactly when every leg is 0,
+--   still-points     exactly when all points are equal
 use mathlib.Core.Path.{_≡_, refl, sym, ap, _∙_}
 use mathlib.Core.List.{List, [], _∷_}
 use mathlib.Core.Logic.{_↔_, ⊎-elim}
@@ -68,7 +69,7 @@ none-powers (suc n) m k [] e j = refl
 none-powers (suc n) m k (d ∷ ds) e zero = multiple-none (pos (choose m k)) d (e zero)
 none-powers (suc n) m k (d ∷ ds) e (suc j) = none-powers n m (suc k) (differences (d ∷ ds)) (none-differences (d ∷ ds) e) j
 
-still-legs : (ps : List Pair) → Still (legPolynomial ps) ↔ Same pairs (differences ps) []
+pub still-legs : (ps : List Pair) → Still (legPolynomial ps) ↔ Same pairs (differences ps) []
 unfolding legPolynomial powerForm
 still-legs ps =
     let ds = differences ps in

@@ -12,7 +12,7 @@ use drawing::drawn;
 use drawing::to_pairs;
 use pair::Pair;
 use preimages::generator;
-use ranges::in_range;
+pub use ranges::in_range;
 use refusal::Refusal;
 use root::Quartic;
 use root::WholeRoot;

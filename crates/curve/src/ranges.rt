@@ -58,7 +58,7 @@ fn quintic_in_range(c: Quintic) -> bool
 }
 
 // Whether every coordinate is from -20,000 to 20,000.
-pub(crate) fn in_range(curve: Curve) -> bool
+pub fn in_range(curve: Curve) -> bool
     ensures { λ r. ⌜ Tells (InRange (pointsOf curve)) r ⌝ }
 {
     match curve {

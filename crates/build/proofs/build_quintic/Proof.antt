@@ -1,0 +1,103 @@
+-- `build::build_quintic` meets its contract.
+use mathlib.Core.Path.{_≡_, refl, _∙_, subst}
+use borrow.Author.Needs.{needs}
+use lib.IntN.{pos}
+use Rattle.whole.specs.Number.{Tells}
+use Rattle.pair.specs.declared.Pair.{Pair}
+use Rattle.pair.specs.Pairs.{multiple}
+use Rattle.curve.proofs.Flags.{told, untold}
+use Rattle.build.specs.Builds.{Source, quintic, given, thrice, Allowed, NoThird}
+use Rattle.build.specs.Steps.{IsThird, Ranged}
+use Rattle.build.proofs.Sizes.{thrice-within, third-within}
+use Rattle.build.proofs.Legs.{third-found}
+use Rattle.build.proofs.Answers.{refused-range, refused-still, refused-thirds, answered}
+use Rattle.build.proofs.build_quintic.Statement.{statement}
+use Rattle.build.proofs.build_quintic.Tie as tie
+
+module _ (c : tie.Start) where
+  abbrev p0 : Pair
+  p0 = c .args .p0
+
+  abbrev s : Source
+  s = quintic (c .args .w0) (c .args .w1) (c .args .w2)
+
+  abbrev t : Pair
+  t = thrice (c .args .w0) (c .args .w1) (c .args .w2)
+
+allowed-requires : tie.Need-allowed-requires
+allowed-requires c κs = search needs
+
+returns : tie.Need-returns
+returns c = let b = c .before .before in refused-range (p0 b) (s b) (untold (c .before .allowed .result) (c .before .allowed .ensures) (c .if1 .taken))
+
+all-zero-requires : tie.Need-all-zero-requires
+all-zero-requires c κs = search needs
+
+is-allowed : (c : tie.Else1) → Allowed (p0 (c .before .before)) (given (s (c .before .before)))
+is-allowed c = told (c .before .allowed .result) (c .before .allowed .ensures) (c .if1 .left)
+
+returns-2 : tie.Need-returns-2
+returns-2 c =
+    let b = c .before .before .before .before in
+    refused-still (p0 b) (s b) (is-allowed (c .before .before)) (subst (Tells _) (c .if2 .taken) (c .before .all-zero .ensures))
+
+thrice-middle-requires : tie.Need-thrice-middle-requires
+thrice-middle-requires c κs = is-allowed (c .before .before) .1
+
+third-requires : tie.Need-third-requires
+third-requires c κs = search needs
+
+third-is : (c : tie.After-third) → IsThird (t (c .before .before .before .before .before .before)) (c .third .result)
+third-is c = subst (λ (x : Pair). IsThird x (c .third .result)) (c .before .thrice-middle .ensures) (c .third .ensures)
+
+enum-known-d2 : tie.Need-enum-known-d2
+enum-known-d2 c = search needs
+
+enum-told : tie.Need-enum-told
+enum-told c = search needs
+
+returns-3 : tie.Need-returns-3
+returns-3 c =
+    let h = c .before .before in
+    let e = h .before .before in
+    let b = e .before .before .before .before in
+    refused-thirds (p0 b) (s b) (is-allowed (e .before .before)) (subst (Tells _) (e .if2 .left) (e .before .all-zero .ensures)) (subst (IsThird _) (c .enum-told .given .1) (third-is h))
+
+abbrev d2 : tie.After-known-told → Pair
+d2 c = c .before .d2 .given .0 .0
+
+middle : (c : tie.After-known-told) → multiple (pos 3) (d2 c) ≡ t (c .before .before .before .before .before .before .before .before .before)
+middle c = subst (IsThird _) (c .before .d2 .given .1) (third-is (c .before .before .before))
+
+quintic-points-requires : tie.Need-quintic-points-requires
+quintic-points-requires c κs =
+    let a = is-allowed (c .before .before .before .before .before .before .before) in
+    (a, third-within (middle c) (thrice-within (a .1)))
+
+ranged-requires : tie.Need-ranged-requires
+ranged-requires c κs = search needs
+
+returns-4 : tie.Need-returns-4
+returns-4 c =
+    let d = c .before .before in
+    let e = d .before .before .before .before .before in
+    let b = e .before .before .before .before in
+    answered (p0 b) (s b) (is-allowed (e .before .before)) (subst (Tells _) (e .if2 .left) (e .before .all-zero .ensures)) (third-found (d2 d) (middle d)) _ (d2 d, middle d, refl) (c .ranged .result)
+    (subst (λ ps. Ranged ps (c .ranged .result)) (c .before .quintic-points .ensures) (c .ranged .ensures))
+
+pub build-quintic-spec : {M : Type 1} → statement M
+build-quintic-spec =
+    tie.close
+    (tie.spec
+    allowed-requires
+    returns
+    all-zero-requires
+    returns-2
+    thrice-middle-requires
+    third-requires
+    enum-known-d2
+    enum-told
+    returns-3
+    quintic-points-requires
+    ranged-requires
+    returns-4)

@@ -1,0 +1,22 @@
+-- `build::next` meets its contract.
+use mathlib.Core.Path.{sym, ap, _∙_, subst}
+use native.Mathlib.Omega.{arith}
+use borrow.Author.Needs.{needs}
+use Rattle.pair.specs.Pairs.{PartsWithin, plus}
+use Rattle.pair.proofs.Parts.{wider, times-within}
+use Rattle.build.proofs.next.Statement.{statement}
+use Rattle.build.proofs.next.Tie as tie
+
+product-requires : tie.Need-product-requires
+product-requires c κs = search needs
+
+sum-requires : tie.Need-sum-requires
+sum-requires c κs =
+    let h = c .before .pre in
+    (wider (omega arith) (h .0), rw (c .product .ensures) (wider (omega arith) (times-within (h .1) (h .2))))
+
+returns : tie.Need-returns
+returns c = c .sum .ensures ∙ ap (plus (c .before .before .args .p)) (c .before .product .ensures)
+
+pub next-spec : {M : Type 1} → statement M
+next-spec = tie.close (tie.spec product-requires sum-requires returns)

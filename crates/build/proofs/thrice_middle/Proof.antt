@@ -1,0 +1,36 @@
+-- `build::thrice_middle` meets its contract.
+use mathlib.Core.Path.{ap, ap₂, _∙_}
+use native.Mathlib.Omega.{arith}
+use lib.IntN.{pos}
+use Rattle.pair.specs.Pairs.{plus, multiple, PartsWithin}
+use Rattle.pair.proofs.Parts.{wider, times-within}
+use Rattle.build.proofs.Sizes.{multiple-within}
+use Rattle.build.proofs.thrice_middle.Statement.{statement}
+use Rattle.build.proofs.thrice_middle.Tie as tie
+
+product-requires : tie.Need-product-requires
+product-requires c κs = (wider (omega arith) (c .pre 1), wider (omega arith) (c .pre 1))
+
+square-within : (c : tie.After-product) → PartsWithin 80000 (c .product .result)
+square-within c = rw (c .product .ensures) (times-within (c .before .pre 1) (c .before .pre 1))
+
+multiple-requires : tie.Need-multiple-requires
+multiple-requires c κs = (record { size = omega arith }, wider (omega arith) (square-within c))
+
+product-requires-2 : tie.Need-product-requires-2
+product-requires-2 c κs = (wider (omega arith) (c .before .before .pre 0), wider (omega arith) (c .before .before .pre 2))
+
+sum-requires : tie.Need-sum-requires
+sum-requires c κs =
+    let h = c .before .before .before .pre in (
+      rw (c .before .multiple .ensures) (wider (omega arith) (multiple-within 2 (square-within (c .before .before)))),
+      rw (c .product2 .ensures) (wider (omega arith) (times-within (h 0) (h 2))),
+    )
+
+returns : tie.Need-returns
+returns c =
+    c .sum .ensures
+    ∙ ap₂ plus (c .before .before .multiple .ensures ∙ ap (multiple (pos 2)) (c .before .before .before .product .ensures)) (c .before .product2 .ensures)
+
+pub thrice-middle-spec : {M : Type 1} → statement M
+thrice-middle-spec = tie.close (tie.spec product-requires multiple-requires product-requires-2 sum-requires returns)

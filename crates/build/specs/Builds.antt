@@ -1,0 +1,83 @@
+-- Building from a pre-image in Bernstein form: what the two builders promise.
+--   Source, given            what is built from: w0 and w1 for a cubic, w0, w1 and w2 for a quintic; the list of them
+--   thrice                   2 w1² + w0 w2, three times the middle leg of a quintic
+--   Legs s ds                ds are the legs of s, each from its formula
+--   points p ds              the points that begin at p and go by the legs ds
+--   source-out-of-range, all-zero, no-third, point-out-of-range      the causes of refusal
+--   numberOfBuilt, Gives     the refusal's number, 0 for a curve; the points of the curve
+--   Built p0 s r             the promise
+use mathlib.Core.Path.{_≡_}
+use mathlib.Core.List.{List, [], _∷_}
+use mathlib.Core.Logic.{_⊎_}
+use Prim.Native.Nat.{ℕ}
+use lib.IntN.{pos}
+use Rattle.refusal.specs.declared.Refusal.the-variants.{Range, Still, Thirds}
+use Rattle.refusal.specs.Table.{Cause, First, numberOf}
+use Rattle.whole.specs.Poly.{Same, Divides}
+use Rattle.whole.specs.Number.{wholes}
+use Rattle.pair.specs.declared.Pair.{Pair}
+use Rattle.pair.specs.Pairs.{pairs, plus, times, multiple, PartsWithin, AllWithin}
+use Rattle.curve.specs.Curves.{InRange, pointsOf}
+use Rattle.build.specs.declared.BuildAnswer.{BuildAnswer}
+use Rattle.build.specs.declared.BuildAnswer.the-variants as answer
+
+pub data Source : Type 0 where
+  cubic : Pair → Pair → Source
+  quintic : Pair → Pair → Pair → Source
+
+abbrev pub given : Source → List Pair
+given (cubic w0 w1) = w0 ∷ w1 ∷ []
+given (quintic w0 w1 w2) = w0 ∷ w1 ∷ w2 ∷ []
+
+abbrev pub thrice : Pair → Pair → Pair → Pair
+thrice w0 w1 w2 = plus (multiple (pos 2) (times w1 w1)) (times w0 w2)
+
+abbrev pub Legs : Source → List Pair → Type 0
+Legs (cubic w0 w1) ds = ds ≡ times w0 w0 ∷ times w0 w1 ∷ times w1 w1 ∷ []
+Legs (quintic w0 w1 w2) ds =
+    (d2 : Pair) × (multiple (pos 3) d2 ≡ thrice w0 w1 w2) × (ds ≡ times w0 w0 ∷ times w0 w1 ∷ d2 ∷ times w1 w2 ∷ times w2 w2 ∷ [])
+
+unfoldable pub points : Pair → List Pair → List Pair
+points p [] = p ∷ []
+points p (d ∷ ds) = p ∷ points (plus p d) ds
+
+-- ---- the causes
+abbrev pub Allowed : Pair → List Pair → Type 0
+Allowed p0 ws = PartsWithin 20000 p0 × AllWithin 200 ws
+
+abbrev pub source-out-of-range : Pair → Source → Cause
+source-out-of-range p0 s = record { refusal = Range; holds = Allowed p0 (given s) → ⊥ }
+
+abbrev pub AllZero : List Pair → Type 0
+AllZero ws = Same pairs ws []
+
+abbrev pub all-zero : Source → Cause
+all-zero s = record { refusal = Still; holds = AllZero (given s) }
+
+-- a part that 3 does not divide
+abbrev pub NoThird : Pair → Type 0
+NoThird t = (Divides wholes (pos 3) (t .re) → ⊥) ⊎ (Divides wholes (pos 3) (t .im) → ⊥)
+
+-- only a quintic has a leg that is a third
+abbrev pub NoMiddle : Source → Type 0
+NoMiddle (cubic w0 w1) = ⊥
+NoMiddle (quintic w0 w1 w2) = NoThird (thrice w0 w1 w2)
+
+abbrev pub no-third : Source → Cause
+no-third s = record { refusal = Thirds; holds = NoMiddle s }
+
+abbrev pub point-out-of-range : Pair → Source → Cause
+point-out-of-range p0 s = record { refusal = Range; holds = (ds : List Pair) → Legs s ds → InRange (points p0 ds) → ⊥ }
+
+-- ---- the promise
+abbrev pub numberOfBuilt : BuildAnswer → ℕ
+numberOfBuilt (answer.Built c) = 0
+numberOfBuilt (answer.Refused r) = numberOf r
+
+abbrev pub Gives : List Pair → BuildAnswer → Type 0
+Gives ps (answer.Built c) = pointsOf c ≡ ps
+Gives ps (answer.Refused r) = ⊥
+
+pub record Built (p0 : Pair) (s : Source) (r : BuildAnswer) : Type 0 where
+  pub refusal : First (source-out-of-range p0 s ∷ all-zero s ∷ no-third s ∷ point-out-of-range p0 s ∷ []) (numberOfBuilt r)
+  pub built : numberOfBuilt r ≡ 0 → (ds : List Pair) × Legs s ds × Gives (points p0 ds) r

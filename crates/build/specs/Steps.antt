@@ -1,0 +1,22 @@
+-- The steps of building.
+--   IsThird t q       a third of t, or that a part of t has none
+--   Ranged ps r       the curve with the points ps, or RANGE where one of them is out of range
+use mathlib.Core.Path.{_≡_}
+use mathlib.Core.List.{List, [], _∷_}
+use lib.IntN.{pos}
+use Rattle.refusal.specs.Table.{First}
+use Rattle.pair.specs.declared.Pair.{Pair}
+use Rattle.pair.specs.declared.PairQuotient.{PairQuotient}
+use Rattle.pair.specs.declared.PairQuotient.the-variants.{Whole, None}
+use Rattle.pair.specs.Pairs.{multiple}
+use Rattle.curve.specs.Promise.{out-of-range}
+use Rattle.build.specs.declared.BuildAnswer.{BuildAnswer}
+use Rattle.build.specs.Builds.{NoThird, numberOfBuilt, Gives}
+
+abbrev pub IsThird : Pair → PairQuotient → Type 0
+IsThird t (Whole d) = multiple (pos 3) d ≡ t
+IsThird t None = NoThird t
+
+pub record Ranged (ps : List Pair) (r : BuildAnswer) : Type 0 where
+  pub refusal : First (out-of-range ps ∷ []) (numberOfBuilt r)
+  pub built : numberOfBuilt r ≡ 0 → Gives ps r
