@@ -3,7 +3,7 @@
 --   thrice                   2 w1² + w0 w2, three times the middle leg of a quintic
 --   Legs s ds                ds are the legs of s, each from its formula
 --   points p ds              the points that begin at p and go by the legs ds
---   source-out-of-range, all-zero, no-third, point-out-of-range      the causes of refusal
+--   source-out-of-range, all-zero, no-third, point-out-of-range      the causes of refusal; `causes`, their order
 --   numberOfBuilt, Gives     the refusal's number, 0 for a curve; the points of the curve
 --   Built p0 s r             the promise
 use mathlib.Core.Path.{_≡_}
@@ -69,6 +69,10 @@ no-third s = record { refusal = Thirds; holds = NoMiddle s }
 abbrev pub point-out-of-range : Pair → Source → Cause
 point-out-of-range p0 s = record { refusal = Range; holds = (ds : List Pair) → Legs s ds → InRange (points p0 ds) → ⊥ }
 
+-- the document's order: 6 for p0 and w, 8, 13, 6 for a built point
+abbrev pub causes : Pair → Source → List Cause
+causes p0 s = source-out-of-range p0 s ∷ all-zero s ∷ no-third s ∷ point-out-of-range p0 s ∷ []
+
 -- ---- the promise
 abbrev pub numberOfBuilt : BuildAnswer → ℕ
 numberOfBuilt (answer.Built c) = 0
@@ -79,5 +83,5 @@ Gives ps (answer.Built c) = pointsOf c ≡ ps
 Gives ps (answer.Refused r) = ⊥
 
 pub record Built (p0 : Pair) (s : Source) (r : BuildAnswer) : Type 0 where
-  pub refusal : First (source-out-of-range p0 s ∷ all-zero s ∷ no-third s ∷ point-out-of-range p0 s ∷ []) (numberOfBuilt r)
+  pub refusal : First (causes p0 s) (numberOfBuilt r)
   pub built : numberOfBuilt r ≡ 0 → (ds : List Pair) × Legs s ds × Gives (points p0 ds) r

@@ -2,7 +2,8 @@
 use native.Mathlib.Omega.{arith}
 use Rattle.pair.specs.Pairs.{PartsWithin}
 use Rattle.pair.proofs.Parts.{wider}
-use Rattle.build.proofs.Sizes.{plus-within, next-within}
+use Rattle.build.proofs.Lower.{plus-within}
+use Rattle.build.proofs.Sizes.{next-within}
 use Rattle.build.proofs.Legs.{points-on, points-end}
 use Rattle.build.proofs.quintic_points.Statement.{statement}
 use Rattle.build.proofs.quintic_points.Tie as tie
