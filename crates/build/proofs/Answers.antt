@@ -1,8 +1,7 @@
 -- The answers of a builder, each from the causes that hold and that do not.
 --   refused-range, refused-still, refused-thirds     the refusals for what is given
 --   answered                                         the curve, or the refusal for a point
---   built-once                                       what is promised has one answer
-use mathlib.Core.Path.{_≡_, refl, subst}
+use mathlib.Core.Path.{refl, subst}
 use mathlib.Core.List.{List, [], _∷_}
 use mathlib.Core.Logic.{inl, inr}
 use native.Mathlib.Omega.{arith}

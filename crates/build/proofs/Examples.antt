@@ -1,7 +1,7 @@
 -- Cases of the document that can be built, by computation.
 --   case-2     the cubic from 1 and i
 --   case-7     the quintic from 1, −2 − i and i, with the middle leg (6 + 9i) / 3
-use mathlib.Core.Path.{_≡_, refl, ap, _∙_}
+use mathlib.Core.Path.{_≡_, refl, ap}
 use mathlib.Core.List.{List, [], _∷_}
 use lib.IntN.{pos, negsuc}
 use Rattle.pair.specs.declared.Pair.{Pair}

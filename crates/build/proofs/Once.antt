@@ -1,16 +1,12 @@
 -- One answer of the builders.
 --   built-once     what is promised of an answer leaves one
 use mathlib.Core.Path.{_≡_, refl, sym, ap, _∙_}
-use mathlib.Core.List.{List, []}
 use native.Mathlib.Omega.{arith}
-use Rattle.refusal.specs.declared.Refusal.{Refusal}
-use Rattle.refusal.specs.Table.{numberOf}
 use Rattle.refusal.proofs.Laws.{number-positive, number-once, first-once}
 use Rattle.pair.specs.declared.Pair.{Pair}
-use Rattle.curve.specs.declared.Curve.{Curve}
 use Rattle.build.specs.declared.BuildAnswer.{BuildAnswer}
 use Rattle.build.specs.declared.BuildAnswer.the-variants as answer
-use Rattle.build.specs.Builds.{Source, Legs, points, causes, numberOfBuilt, Gives, Built}
+use Rattle.build.specs.Builds.{Source, points, causes, numberOfBuilt, Built}
 use Rattle.build.proofs.Lower.{curve-once}
 use Rattle.build.proofs.Legs.{legs-once}
 

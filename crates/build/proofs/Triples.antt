@@ -5,7 +5,7 @@ use mathlib.Core.Path.{_≡_, refl, subst, fun-ext}
 use mathlib.Core.Bool.{Bool}
 use mathlib.Core.List.{[], _∷_}
 use Prim.Native.Nat.{ℕ, zero, suc}
-use Rattle.whole.specs.Poly.{at, Same}
+use Rattle.whole.specs.Poly.{Same}
 use Rattle.whole.specs.Number.{Tells}
 use Rattle.poly.proofs.Series.{Series}
 use Rattle.pair.specs.declared.Pair.{Pair}

@@ -128,10 +128,10 @@ fn quintic_points(p0: Pair, w0: Pair, w1: Pair, w2: Pair, d2: Pair) -> Curve
 fn ranged(curve: Curve) -> BuildAnswer
     ensures { λ r. ⌜ Ranged (pointsOf curve) r ⌝ }
 {
-    if !in_range(curve) {
-        return BuildAnswer::Refused(Refusal::Range);
+    if in_range(curve) {
+        return BuildAnswer::Built(curve);
     }
-    BuildAnswer::Built(curve)
+    BuildAnswer::Refused(Refusal::Range)
 }
 
 // The cubic from p0 with the legs w0^2, w0 w1, w1^2.

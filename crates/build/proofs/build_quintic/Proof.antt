@@ -1,12 +1,12 @@
 -- `build::build_quintic` meets its contract.
-use mathlib.Core.Path.{_≡_, refl, _∙_, subst}
+use mathlib.Core.Path.{_≡_, refl, subst}
 use borrow.Author.Needs.{needs}
 use lib.IntN.{pos}
 use Rattle.whole.specs.Number.{Tells}
 use Rattle.pair.specs.declared.Pair.{Pair}
 use Rattle.pair.specs.Pairs.{multiple}
 use Rattle.curve.proofs.Flags.{told, untold}
-use Rattle.build.specs.Builds.{Source, quintic, given, thrice, Allowed, NoThird}
+use Rattle.build.specs.Builds.{Source, quintic, given, thrice, Allowed}
 use Rattle.build.specs.Steps.{IsThird, Ranged}
 use Rattle.build.proofs.Sizes.{thrice-within, third-within}
 use Rattle.build.proofs.Legs.{third-found}

@@ -1,8 +1,8 @@
 -- `build::next` meets its contract.
-use mathlib.Core.Path.{sym, ap, _∙_, subst}
+use mathlib.Core.Path.{ap, _∙_}
 use native.Mathlib.Omega.{arith}
 use borrow.Author.Needs.{needs}
-use Rattle.pair.specs.Pairs.{PartsWithin, plus}
+use Rattle.pair.specs.Pairs.{plus}
 use Rattle.pair.proofs.Parts.{wider, times-within}
 use Rattle.build.proofs.next.Statement.{statement}
 use Rattle.build.proofs.next.Tie as tie

@@ -2,19 +2,15 @@
 use mathlib.Core.Path.{_≡_, _∙_, subst}
 use mathlib.Core.Logic.{inl, inr}
 use borrow.Author.Needs.{needs}
-use lib.IntN.{ℤ, pos}
 use mir.Syntax.{w64}
 use mir.Val.{toZ, ofZ}
 use mir.ValLaws.{toZ-ofZ}
-use Rattle.whole.specs.Quotients.{Divisible, IsQuotient}
+use Rattle.whole.specs.Quotients.{IsQuotient}
 use Rattle.whole.proofs.Linear.{linear}
 use Rattle.pair.specs.declared.Pair.{Pair}
 use Rattle.pair.proofs.Parts.{pair-equal}
 use Rattle.build.proofs.third.Statement.{statement}
 use Rattle.build.proofs.third.Tie as tie
-
-divisible : (n : ℤ) → Divisible n (pos 3)
-divisible n = record { nonzero = λ e. omega linear; not-least = λ e f. omega linear }
 
 module _ (c : tie.After-struct-told2) where
   abbrev t : Pair
@@ -27,7 +23,7 @@ module _ (c : tie.After-struct-told2) where
   y-is = toZ-ofZ w64 (t .im) (search needs)
 
 quotient-requires : tie.Need-quotient-requires
-quotient-requires c κs = divisible _
+quotient-requires c κs = record { nonzero = λ e. omega linear; not-least = λ e f. omega linear }
 
 enum-known-u : tie.Need-enum-known-u
 enum-known-u c = search needs
@@ -39,7 +35,7 @@ returns : tie.Need-returns
 returns c = inl (rw (x-is (c .before .before .before)) at (subst (IsQuotient _ _) (c .enum-told .given .1) (c .before .before .quotient .ensures)))
 
 quotient-requires-2 : tie.Need-quotient-requires-2
-quotient-requires-2 c κs = divisible _
+quotient-requires-2 c κs = record { nonzero = λ e. omega linear; not-least = λ e f. omega linear }
 
 enum-known-v : tie.Need-enum-known-v
 enum-known-v c = search needs
