@@ -15,10 +15,10 @@ ghost use mathlib.Core.Path.{_≡_};
 ghost use mathlib.Core.List.{_∷_, []};
 ghost use Prim.Native.Nat.{_^_};
 ghost use Rattle.whole.specs.Number.{Tells};
-ghost use Rattle.pair.specs.Pairs.{plus, times, PartsWithin, AllWithin};
+ghost use Rattle.pair.specs.Pairs.{times, PartsWithin};
 ghost use Rattle.curve.specs.Curves.{pointsOf};
 ghost use Rattle.build.specs.Builds.{cubic, quintic, thrice, points, Allowed, AllZero, Built};
-ghost use Rattle.build.specs.Steps.{IsThird, Ranged};
+ghost use Rattle.build.specs.Steps.{IsThird, Next, Ranged};
 
 pub enum BuildAnswer {
     Built(Curve),
@@ -62,7 +62,7 @@ fn all_zero(w0: Pair, w1: Pair, w2: Pair) -> bool
 
 // 2 w1^2 + w0 w2
 fn thrice_middle(w0: Pair, w1: Pair, w2: Pair) -> Pair
-    requires { ⌜ AllWithin 200 (w0 ∷ w1 ∷ w2 ∷ []) ⌝ }
+    requires { ⌜ PartsWithin 200 w0 × PartsWithin 200 w1 × PartsWithin 200 w2 ⌝ }
     ensures { λ t. ⌜ t ≡ thrice w0 w1 w2 ⌝ }
 {
     let a = product(w1, w1);
@@ -89,13 +89,13 @@ fn third(t: Pair) -> PairQuotient
 // p + a b: the next point, where the leg is a product.
 fn next(p: Pair, a: Pair, b: Pair) -> Pair
     requires { ⌜ PartsWithin (2 ^ 30) p × PartsWithin 200 a × PartsWithin 200 b ⌝ }
-    ensures { λ r. ⌜ r ≡ plus p (times a b) ⌝ }
+    ensures { λ r. ⌜ Next p (times a b) r ⌝ }
 {
     sum(p, product(a, b))
 }
 
 fn cubic_points(p0: Pair, w0: Pair, w1: Pair) -> Curve
-    requires { ⌜ Allowed p0 (w0 ∷ w1 ∷ []) ⌝ }
+    requires { ⌜ PartsWithin 20000 p0 × PartsWithin 200 w0 × PartsWithin 200 w1 ⌝ }
     ensures { λ c. ⌜ pointsOf c ≡ points p0 (times w0 w0 ∷ times w0 w1 ∷ times w1 w1 ∷ []) ⌝ }
 {
     let p1 = next(p0, w0, w0);
@@ -106,7 +106,7 @@ fn cubic_points(p0: Pair, w0: Pair, w1: Pair) -> Curve
 
 // d2 is the middle leg.
 fn quintic_points(p0: Pair, w0: Pair, w1: Pair, w2: Pair, d2: Pair) -> Curve
-    requires { ⌜ Allowed p0 (w0 ∷ w1 ∷ w2 ∷ []) × PartsWithin 240000 d2 ⌝ }
+    requires { ⌜ PartsWithin 20000 p0 × PartsWithin 200 w0 × PartsWithin 200 w1 × PartsWithin 200 w2 × PartsWithin 240000 d2 ⌝ }
     ensures { λ c. ⌜ pointsOf c ≡ points p0 (times w0 w0 ∷ times w0 w1 ∷ d2 ∷ times w1 w2 ∷ times w2 w2 ∷ []) ⌝ }
 {
     let p1 = next(p0, w0, w0);

@@ -42,7 +42,7 @@ returns-2 c =
     refused-still (p0 b) (s b) (is-allowed (c .before .before)) (subst (Tells _) (c .if2 .taken) (zero-tells (c .before)))
 
 cubic-points-requires : tie.Need-cubic-points-requires
-cubic-points-requires c κs = is-allowed (c .before .before)
+cubic-points-requires c κs = let a = is-allowed (c .before .before) in (a .0, a .1 0, a .1 1)
 
 ranged-requires : tie.Need-ranged-requires
 ranged-requires c κs = search needs

@@ -42,7 +42,7 @@ returns-2 c =
     refused-still (p0 b) (s b) (is-allowed (c .before .before)) (subst (Tells _) (c .if2 .taken) (c .before .all-zero .ensures))
 
 thrice-middle-requires : tie.Need-thrice-middle-requires
-thrice-middle-requires c κs = is-allowed (c .before .before) .1
+thrice-middle-requires c κs = let a = is-allowed (c .before .before) in (a .1 0, a .1 1, a .1 2)
 
 third-requires : tie.Need-third-requires
 third-requires c κs = search needs
@@ -72,7 +72,7 @@ middle c = subst (IsThird _) (c .before .d2 .given .1) (third-is (c .before .bef
 quintic-points-requires : tie.Need-quintic-points-requires
 quintic-points-requires c κs =
     let a = is-allowed (c .before .before .before .before .before .before .before) in
-    (a, third-within (middle c) (thrice-within (a .1)))
+    (a .0, a .1 0, a .1 1, a .1 2, third-within (middle c) (thrice-within (a .1 0) (a .1 1) (a .1 2)))
 
 ranged-requires : tie.Need-ranged-requires
 ranged-requires c κs = search needs

@@ -1,10 +1,13 @@
 -- `build::third` meets its contract, part by part.
-use mathlib.Core.Path.{_≡_, _∙_, subst}
+use mathlib.Core.Path.{_≡_, sym, _∙_, subst}
 use mathlib.Core.Logic.{inl, inr}
 use borrow.Author.Needs.{needs}
+use lib.IntN.{pos}
 use mir.Syntax.{w64}
 use mir.Val.{toZ, ofZ}
 use mir.ValLaws.{toZ-ofZ}
+use Rattle.whole.specs.Number.{wholes}
+use Rattle.whole.specs.Poly.{Divides}
 use Rattle.whole.specs.Quotients.{IsQuotient}
 use Rattle.whole.proofs.Linear.{linear}
 use Rattle.pair.specs.declared.Pair.{Pair}
@@ -32,7 +35,8 @@ enum-told : tie.Need-enum-told
 enum-told c = search needs
 
 returns : tie.Need-returns
-returns c = inl (rw (x-is (c .before .before .before)) at (subst (IsQuotient _ _) (c .enum-told .given .1) (c .before .before .quotient .ensures)))
+returns c =
+    inl (λ h. subst (IsQuotient _ _) (c .enum-told .given .1) (c .before .before .quotient .ensures) (subst (Divides wholes (pos 3)) (sym (x-is (c .before .before .before))) h))
 
 quotient-requires-2 : tie.Need-quotient-requires-2
 quotient-requires-2 c κs = record { nonzero = λ e. omega linear; not-least = λ e f. omega linear }
@@ -45,7 +49,8 @@ enum-told-2 c = search needs
 
 returns-2 : tie.Need-returns-2
 returns-2 c =
-    inr (rw (y-is (c .before .before .before .before .before .before .before)) at (subst (IsQuotient _ _) (c .enum-told2 .given .1) (c .before .before .quotient2 .ensures)))
+    let s = c .before .before .before .before .before .before .before in
+    inr (λ h. subst (IsQuotient _ _) (c .enum-told2 .given .1) (c .before .before .quotient2 .ensures) (subst (Divides wholes (pos 3)) (sym (y-is s)) h))
 
 returns-3 : tie.Need-returns-3
 returns-3 c =

@@ -1,6 +1,7 @@
 -- `build::thrice_middle` meets its contract.
 use mathlib.Core.Path.{ap, ap₂, _∙_}
 use native.Mathlib.Omega.{arith}
+use borrow.Author.Needs.{needs}
 use lib.IntN.{pos}
 use Rattle.pair.specs.Pairs.{plus, multiple, PartsWithin}
 use Rattle.pair.proofs.Parts.{wider, times-within}
@@ -9,22 +10,22 @@ use Rattle.build.proofs.thrice_middle.Statement.{statement}
 use Rattle.build.proofs.thrice_middle.Tie as tie
 
 product-requires : tie.Need-product-requires
-product-requires c κs = (wider (omega arith) (c .pre 1), wider (omega arith) (c .pre 1))
+product-requires c κs = search needs
 
 square-within : (c : tie.After-product) → PartsWithin 80000 (c .product .result)
-square-within c = rw (c .product .ensures) (times-within (c .before .pre 1) (c .before .pre 1))
+square-within c = let h = c .before .pre in rw (c .product .ensures) (times-within (h .1) (h .1))
 
 multiple-requires : tie.Need-multiple-requires
 multiple-requires c κs = (record { size = omega arith }, wider (omega arith) (square-within c))
 
 product-requires-2 : tie.Need-product-requires-2
-product-requires-2 c κs = (wider (omega arith) (c .before .before .pre 0), wider (omega arith) (c .before .before .pre 2))
+product-requires-2 c κs = search needs
 
 sum-requires : tie.Need-sum-requires
 sum-requires c κs =
     let h = c .before .before .before .pre in (
       rw (c .before .multiple .ensures) (wider (omega arith) (multiple-within 2 (square-within (c .before .before)))),
-      rw (c .product2 .ensures) (wider (omega arith) (times-within (h 0) (h 2))),
+      rw (c .product2 .ensures) (wider (omega arith) (times-within (h .0) (h .2))),
     )
 
 returns : tie.Need-returns
