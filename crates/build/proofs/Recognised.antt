@@ -24,7 +24,7 @@ use Rattle.curve.proofs.Points.{still-legs}
 use Rattle.build.specs.declared.BuildAnswer.the-variants as answer
 use Rattle.build.specs.Builds.{Source, given, Legs, points, AllZero, causes, Built}
 use Rattle.build.proofs.Lower.{NoneHolds, first-none, plus-minus}
-use Rattle.build.proofs.Legs.{legs-once}
+use Rattle.build.proofs.Legs.{outside}
 use Rattle.build.proofs.Squares.{legs-squared}
 
 -- ---- the legs of the points are the legs
@@ -60,7 +60,7 @@ module _ (p0 : Pair) (s : Source) (c : Curve) (h : Built p0 s (answer.Built c)) 
   not-outside : (InRange (pointsOf c) → ⊥) → ⊥
   not-outside n =
       let (ds, l, e) = h .built refl in
-      none-holds .1 .1 .1 .0 (λ es k i. n (subst InRange (ap (points p0) (legs-once s es ds k l) ∙ sym e) i))
+      none-holds .1 .1 .1 .0 (outside p0 s ds l (λ i. n (subst InRange (sym e) i)))
 
   moves : Still (legPolynomial (pointsOf c)) → ⊥
   moves z = ⊎-elim zero zero (product-zero pairs-ring pairs-domain W W (λ k. sym (D-squared k) ∙ z k))
@@ -78,9 +78,10 @@ module _ (p0 : Pair) (s : Source) (c : Curve) (h : Built p0 s (answer.Built c)) 
   held (verdict.Pre p) (m, k) = (p, refl, λ i. sym (k .generated i) ∙ D-squared i)
   held (verdict.Refused r) x = absurd x
 
-  pub built-recognised : (v : Verdict) → Recognised (pointsOf c) v → IsPre v
-  built-recognised v k = by (k .refusal)
-    where
-      by : First (out-of-range (pointsOf c) ∷ []) (numberOfVerdict v) → IsPre v
-      by (inl (n, e)) = absurd (not-outside n)
-      by (inr (n, e)) = held v (k .verdict e)
+  by-cause : (v : Verdict) → Recognised (pointsOf c) v → First (out-of-range (pointsOf c) ∷ []) (numberOfVerdict v) → IsPre v
+  by-cause v k (inl (n, e)) = absurd (not-outside n)
+  by-cause v k (inr (n, e)) = held v (k .verdict e)
+
+pub built-recognised : (p0 : Pair) (s : Source) (c : Curve) → Built p0 s (answer.Built c) → (v : Verdict) → Recognised (pointsOf c) v
+    → (p : Preimage) × (v ≡ verdict.Pre p) × Same pairs (scaled pairs (p .kappa) (square pairs (quadratic (p .w)))) (square pairs (powerForm (given s)))
+built-recognised p0 s c h v k = by-cause p0 s c h v k (k .refusal)

@@ -22,13 +22,13 @@ module _ {A : Type 0} {C : Coefficients A} (R : Ring C) where
   infixl 60 _⊕_
   infixl 70 _⊗_
   -- power coefficients from two, three and five Bernstein coefficients
-  abbrev pub two : A → A → List A
+  abbrev two : A → A → List A
   two a b = (number (pos 1) ⊗ a) ∷ (number (pos 1) ⊗ (b ⊕ negative a)) ∷ []
 
-  abbrev pub three : A → A → A → List A
+  abbrev three : A → A → A → List A
   three a b c = (number (pos 1) ⊗ a) ∷ (number (pos 2) ⊗ (b ⊕ negative a)) ∷ (number (pos 1) ⊗ (c ⊕ negative b ⊕ negative (b ⊕ negative a))) ∷ []
 
-  abbrev pub five : A → A → A → A → A → List A
+  abbrev five : A → A → A → A → A → List A
   five a b c d e =
       let b0 = c ⊕ negative b ⊕ negative (b ⊕ negative a) in
       let b1 = d ⊕ negative c ⊕ negative (c ⊕ negative b) in
@@ -36,31 +36,31 @@ module _ {A : Type 0} {C : Coefficients A} (R : Ring C) where
       (number (pos 1) ⊗ a) ∷ (number (pos 4) ⊗ (b ⊕ negative a)) ∷ (number (pos 6) ⊗ b0) ∷ (number (pos 4) ⊗ (b1 ⊕ negative b0)) ∷
       (number (pos 1) ⊗ (b2 ⊕ negative b1 ⊕ negative (b1 ⊕ negative b0))) ∷ []
 
-  pub cubic-squared : (w0 w1 : A) → Same C (three (w0 ⊗ w0) (w0 ⊗ w1) (w1 ⊗ w1)) (square C (two w0 w1))
+  cubic-squared : (w0 w1 : A) → Same C (three (w0 ⊗ w0) (w0 ⊗ w1) (w1 ⊗ w1)) (square C (two w0 w1))
   unfolding sum scaled product
-  cubic-squared w0 w1 zero = atoms R (w0 ∷ w1 ∷ []) (λ ρ e. simp (e 0, e 1, read, read-none R ρ, read-lit R ρ) (ring R ρ _ _ tt))
+  cubic-squared w0 w1 zero = atoms R (w0 ∷ []) (λ ρ e. simp (e 0, read, read-none R ρ, read-lit R ρ) (ring R ρ _ _ tt))
   cubic-squared w0 w1 (suc zero) = atoms R (w0 ∷ w1 ∷ []) (λ ρ e. simp (e 0, e 1, read, read-none R ρ, read-lit R ρ) (ring R ρ _ _ tt))
-  cubic-squared w0 w1 (suc (suc zero)) = atoms R (w0 ∷ w1 ∷ []) (λ ρ e. simp (e 0, e 1, read, read-none R ρ, read-lit R ρ) (ring R ρ _ _ tt))
+  cubic-squared w0 w1 (suc (suc zero)) = atoms R (w0 ∷ w1 ∷ []) (λ ρ e. simp (e 0, e 1, read, read-lit R ρ) (ring R ρ _ _ tt))
   cubic-squared w0 w1 (suc (suc (suc k))) = refl
 
   -- what differs by a multiple of 3 d − t is equal
   by-third : (c : A) {d t l r : A} → number (pos 3) ⊗ d ≡ t → l ⊕ negative r ≡ c ⊗ (number (pos 3) ⊗ d ⊕ negative t) → l ≡ r
   by-third c {t} {l} {r} h e = zero-difference R l r (e ∙ ap (λ x. c ⊗ x) (ap (λ x. x ⊕ negative t) h ∙ R .plus-negative t) ∙ times-none R c)
 
-  pub quintic-squared : (w0 w1 w2 d : A) → number (pos 3) ⊗ d ≡ number (pos 2) ⊗ (w1 ⊗ w1) ⊕ w0 ⊗ w2
+  quintic-squared : (w0 w1 w2 d : A) → number (pos 3) ⊗ d ≡ number (pos 2) ⊗ (w1 ⊗ w1) ⊕ w0 ⊗ w2
       → Same C (five (w0 ⊗ w0) (w0 ⊗ w1) d (w1 ⊗ w2) (w2 ⊗ w2)) (square C (three w0 w1 w2))
   unfolding sum scaled product
-  quintic-squared w0 w1 w2 d h zero = atoms R (w0 ∷ w1 ∷ w2 ∷ []) (λ ρ e. simp (e 0, e 1, e 2, read, read-none R ρ, read-lit R ρ) (ring R ρ _ _ tt))
-  quintic-squared w0 w1 w2 d h (suc zero) = atoms R (w0 ∷ w1 ∷ w2 ∷ []) (λ ρ e. simp (e 0, e 1, e 2, read, read-none R ρ, read-lit R ρ) (ring R ρ _ _ tt))
+  quintic-squared w0 w1 w2 d h zero = atoms R (w0 ∷ []) (λ ρ e. simp (e 0, read, read-none R ρ, read-lit R ρ) (ring R ρ _ _ tt))
+  quintic-squared w0 w1 w2 d h (suc zero) = atoms R (w0 ∷ w1 ∷ []) (λ ρ e. simp (e 0, e 1, read, read-none R ρ, read-lit R ρ) (ring R ρ _ _ tt))
   quintic-squared w0 w1 w2 d h (suc (suc zero)) =
       by-third (number (pos 2)) h
       (atoms R (w0 ∷ w1 ∷ w2 ∷ d ∷ []) (λ ρ e. simp (e 0, e 1, e 2, e 3, read, read-none R ρ, read-lit R ρ) (ring R ρ _ _ tt)))
   quintic-squared w0 w1 w2 d h (suc (suc (suc zero))) =
       by-third (negative (number (pos 4))) h
-      (atoms R (w0 ∷ w1 ∷ w2 ∷ d ∷ []) (λ ρ e. simp (e 0, e 1, e 2, e 3, read, read-none R ρ, read-lit R ρ) (ring R ρ _ _ tt)))
+      (atoms R (w0 ∷ w1 ∷ w2 ∷ d ∷ []) (λ ρ e. simp (e 0, e 1, e 2, e 3, read, read-lit R ρ) (ring R ρ _ _ tt)))
   quintic-squared w0 w1 w2 d h (suc (suc (suc (suc zero)))) =
       by-third (number (pos 2)) h
-      (atoms R (w0 ∷ w1 ∷ w2 ∷ d ∷ []) (λ ρ e. simp (e 0, e 1, e 2, e 3, read, read-none R ρ, read-lit R ρ) (ring R ρ _ _ tt)))
+      (atoms R (w0 ∷ w1 ∷ w2 ∷ d ∷ []) (λ ρ e. simp (e 0, e 1, e 2, e 3, read, read-lit R ρ) (ring R ρ _ _ tt)))
   quintic-squared w0 w1 w2 d h (suc (suc (suc (suc (suc k))))) = refl
 
 -- ---- of pairs

@@ -3,7 +3,11 @@
 --   thrice                   2 w1² + w0 w2, three times the middle leg of a quintic
 --   Legs s ds                ds are the legs of s, each from its formula
 --   points p ds              the points that begin at p and go by the legs ds
---   source-out-of-range, all-zero, no-third, point-out-of-range      the causes of refusal; `causes`, their order
+--   Allowed p0 ws            p0 is in range, and each w within 200, by parts
+--   AllZero ws               every w is 0
+--   NoThird t, NoMiddle s    t has a part that 3 does not divide; s has no middle leg for that reason
+--   source-out-of-range, all-zero, no-third, point-out-of-range      the causes of refusal
+--   causes p0 s              their order
 --   numberOfBuilt, Gives     the refusal's number, 0 for a curve; the points of the curve
 --   Built p0 s r             the promise
 use mathlib.Core.Path.{_≡_}
@@ -54,7 +58,6 @@ AllZero ws = Same pairs ws []
 abbrev pub all-zero : Source → Cause
 all-zero s = record { refusal = Still; holds = AllZero (given s) }
 
--- a part that 3 does not divide
 abbrev pub NoThird : Pair → Type 0
 NoThird t = (Divides wholes (pos 3) (t .re) → ⊥) ⊎ (Divides wholes (pos 3) (t .im) → ⊥)
 

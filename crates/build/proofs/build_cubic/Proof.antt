@@ -5,7 +5,6 @@ use Rattle.whole.specs.Number.{Tells}
 use Rattle.pair.specs.declared.Pair.{Pair}
 use Rattle.curve.proofs.Flags.{told, untold}
 use Rattle.build.specs.Builds.{Source, cubic, given, Allowed, AllZero}
-use Rattle.build.specs.Steps.{Ranged}
 use Rattle.build.proofs.Triples.{allowed-two, none-two}
 use Rattle.build.proofs.Answers.{refused-range, refused-still, answered}
 use Rattle.build.proofs.build_cubic.Statement.{statement}
@@ -51,8 +50,8 @@ returns-3 : tie.Need-returns-3
 returns-3 c =
     let e = c .before .before in
     let b = e .before .before .before .before in
-    answered (p0 b) (s b) (is-allowed (e .before .before)) (subst (Tells _) (e .if2 .left) (zero-tells (e .before))) (λ n. n) _ refl (c .ranged .result)
-    (subst (λ ps. Ranged ps (c .ranged .result)) (c .before .cubic-points .ensures) (c .ranged .ensures))
+    answered (p0 b) (s b) (is-allowed (e .before .before)) (subst (Tells _) (e .if2 .left) (zero-tells (e .before))) (λ n. n) _ refl _ (c .before .cubic-points .ensures) (c .ranged .result)
+    (c .ranged .ensures)
 
 pub build-cubic-spec : {M : Type 1} → statement M
 build-cubic-spec =

@@ -7,7 +7,7 @@ use Rattle.pair.specs.declared.Pair.{Pair}
 use Rattle.pair.specs.Pairs.{multiple}
 use Rattle.curve.proofs.Flags.{told, untold}
 use Rattle.build.specs.Builds.{Source, quintic, given, thrice, Allowed}
-use Rattle.build.specs.Steps.{IsThird, Ranged}
+use Rattle.build.specs.Steps.{IsThird}
 use Rattle.build.proofs.Sizes.{thrice-within, third-within}
 use Rattle.build.proofs.Legs.{third-found}
 use Rattle.build.proofs.Answers.{refused-range, refused-still, refused-thirds, answered}
@@ -82,8 +82,8 @@ returns-4 c =
     let d = c .before .before in
     let e = d .before .before .before .before .before in
     let b = e .before .before .before .before in
-    answered (p0 b) (s b) (is-allowed (e .before .before)) (subst (Tells _) (e .if2 .left) (e .before .all-zero .ensures)) (third-found (d2 d) (middle d)) _ (d2 d, middle d, refl) (c .ranged .result)
-    (subst (λ ps. Ranged ps (c .ranged .result)) (c .before .quintic-points .ensures) (c .ranged .ensures))
+    answered (p0 b) (s b) (is-allowed (e .before .before)) (subst (Tells _) (e .if2 .left) (e .before .all-zero .ensures)) (third-found (d2 d) (middle d)) _ (d2 d, middle d, refl) _
+    (c .before .quintic-points .ensures) (c .ranged .result) (c .ranged .ensures)
 
 pub build-quintic-spec : {M : Type 1} → statement M
 build-quintic-spec =

@@ -21,12 +21,14 @@ multiple-requires c κs = (record { size = omega arith }, wider (omega arith) (s
 product-requires-2 : tie.Need-product-requires-2
 product-requires-2 c κs = search needs
 
+double-within : (c : tie.After-multiple) → PartsWithin 160000 (c .multiple .result)
+double-within c = rw (c .multiple .ensures) (multiple-within 2 (square-within (c .before)))
+
+product-within : (c : tie.After-product2) → PartsWithin 80000 (c .product2 .result)
+product-within c = let h = c .before .before .before .pre in rw (c .product2 .ensures) (times-within (h .0) (h .2))
+
 sum-requires : tie.Need-sum-requires
-sum-requires c κs =
-    let h = c .before .before .before .pre in (
-      rw (c .before .multiple .ensures) (wider (omega arith) (multiple-within 2 (square-within (c .before .before)))),
-      rw (c .product2 .ensures) (wider (omega arith) (times-within (h .0) (h .2))),
-    )
+sum-requires c κs = search (needs, square-within (c .before .before), double-within (c .before), product-within c)
 
 returns : tie.Need-returns
 returns c =
