@@ -1,9 +1,10 @@
 -- The legs of a source are the square of its polynomial.
 --   legs-squared     from Bernstein to power coefficients, the legs are the square of the w's
-use mathlib.Core.Path.{_≡_, refl, sym, ap, _∙_}
+use mathlib.Core.Path.{_≡_, refl, sym, ap, ap₂, _∙_}
 use mathlib.Core.List.{List, [], _∷_}
-use Prim.Native.Nat.{zero, suc}
+use Prim.Native.Nat.{ℕ, zero, suc, _-_}
 use lib.IntN.{pos}
+use lib.ListN.{length}
 use Rattle.whole.specs.Poly.{Coefficients, Same, sum, scaled, product, square, choose}
 use Rattle.whole.proofs.Ring.{Ring, times-none, zero-difference}
 use Rattle.whole.proofs.Solver.{atoms, read, read-none, read-lit, ring}
@@ -21,23 +22,22 @@ module _ {A : Type 0} {C : Coefficients A} (R : Ring C) where
 
   infixl 60 _⊕_
   infixl 70 _⊗_
-  -- power coefficients from two, three and five Bernstein coefficients
-  abbrev two : A → A → List A
-  two a b = (number (pos 1) ⊗ a) ∷ (number (pos 1) ⊗ (b ⊕ negative a)) ∷ []
+  -- `powerForm` of curves, over any ring
+  abbrev differencesIn : List A → List A
+  differencesIn [] = []
+  differencesIn (a ∷ []) = []
+  differencesIn (a ∷ b ∷ xs) = (b ⊕ negative a) ∷ differencesIn (b ∷ xs)
 
-  abbrev three : A → A → A → List A
-  three a b c = (number (pos 1) ⊗ a) ∷ (number (pos 2) ⊗ (b ⊕ negative a)) ∷ (number (pos 1) ⊗ (c ⊕ negative b ⊕ negative (b ⊕ negative a))) ∷ []
+  abbrev powersIn : ℕ → ℕ → ℕ → List A → List A
+  powersIn zero m k xs = []
+  powersIn (suc n) m k [] = []
+  powersIn (suc n) m k (a ∷ xs) = (number (pos (choose m k)) ⊗ a) ∷ powersIn n m (suc k) (differencesIn (a ∷ xs))
 
-  abbrev five : A → A → A → A → A → List A
-  five a b c d e =
-      let b0 = c ⊕ negative b ⊕ negative (b ⊕ negative a) in
-      let b1 = d ⊕ negative c ⊕ negative (c ⊕ negative b) in
-      let b2 = e ⊕ negative d ⊕ negative (d ⊕ negative c) in
-      (number (pos 1) ⊗ a) ∷ (number (pos 4) ⊗ (b ⊕ negative a)) ∷ (number (pos 6) ⊗ b0) ∷ (number (pos 4) ⊗ (b1 ⊕ negative b0)) ∷
-      (number (pos 1) ⊗ (b2 ⊕ negative b1 ⊕ negative (b1 ⊕ negative b0))) ∷ []
+  abbrev powerFormIn : List A → List A
+  powerFormIn xs = powersIn (length xs) (length xs - 1) 0 xs
 
-  cubic-squared : (w0 w1 : A) → Same C (three (w0 ⊗ w0) (w0 ⊗ w1) (w1 ⊗ w1)) (square C (two w0 w1))
-  unfolding sum scaled product
+  cubic-squared : (w0 w1 : A) → Same C (powerFormIn ((w0 ⊗ w0) ∷ (w0 ⊗ w1) ∷ (w1 ⊗ w1) ∷ [])) (square C (powerFormIn (w0 ∷ w1 ∷ [])))
+  unfolding sum scaled product choose
   cubic-squared w0 w1 zero = atoms R (w0 ∷ []) (λ ρ e. simp (e 0, read, read-none R ρ, read-lit R ρ) (ring R ρ _ _ tt))
   cubic-squared w0 w1 (suc zero) = atoms R (w0 ∷ w1 ∷ []) (λ ρ e. simp (e 0, e 1, read, read-none R ρ, read-lit R ρ) (ring R ρ _ _ tt))
   cubic-squared w0 w1 (suc (suc zero)) = atoms R (w0 ∷ w1 ∷ []) (λ ρ e. simp (e 0, e 1, read, read-lit R ρ) (ring R ρ _ _ tt))
@@ -48,8 +48,8 @@ module _ {A : Type 0} {C : Coefficients A} (R : Ring C) where
   by-third c {t} {l} {r} h e = zero-difference R l r (e ∙ ap (λ x. c ⊗ x) (ap (λ x. x ⊕ negative t) h ∙ R .plus-negative t) ∙ times-none R c)
 
   quintic-squared : (w0 w1 w2 d : A) → number (pos 3) ⊗ d ≡ number (pos 2) ⊗ (w1 ⊗ w1) ⊕ w0 ⊗ w2
-      → Same C (five (w0 ⊗ w0) (w0 ⊗ w1) d (w1 ⊗ w2) (w2 ⊗ w2)) (square C (three w0 w1 w2))
-  unfolding sum scaled product
+      → Same C (powerFormIn ((w0 ⊗ w0) ∷ (w0 ⊗ w1) ∷ d ∷ (w1 ⊗ w2) ∷ (w2 ⊗ w2) ∷ [])) (square C (powerFormIn (w0 ∷ w1 ∷ w2 ∷ [])))
+  unfolding sum scaled product choose
   quintic-squared w0 w1 w2 d h zero = atoms R (w0 ∷ []) (λ ρ e. simp (e 0, read, read-none R ρ, read-lit R ρ) (ring R ρ _ _ tt))
   quintic-squared w0 w1 w2 d h (suc zero) = atoms R (w0 ∷ w1 ∷ []) (λ ρ e. simp (e 0, e 1, read, read-none R ρ, read-lit R ρ) (ring R ρ _ _ tt))
   quintic-squared w0 w1 w2 d h (suc (suc zero)) =
@@ -64,25 +64,28 @@ module _ {A : Type 0} {C : Coefficients A} (R : Ring C) where
   quintic-squared w0 w1 w2 d h (suc (suc (suc (suc (suc k))))) = refl
 
 -- ---- of pairs
-powers-two : (a b : Pair) → powerForm (a ∷ b ∷ []) ≡ two pairs-ring a b
-unfolding powerForm powers differences choose
-powers-two a b = λ i. number-multiple (pos 1) a i ∷ number-multiple (pos 1) (minus b a) i ∷ []
+same-differences : (ds : List Pair) → differences ds ≡ differencesIn pairs-ring ds
+unfolding differences
+same-differences [] = refl
+same-differences (d ∷ []) = refl
+same-differences (d ∷ e ∷ ds) = ap (λ xs. minus e d ∷ xs) (same-differences (e ∷ ds))
 
-powers-three : (a b c : Pair) → powerForm (a ∷ b ∷ c ∷ []) ≡ three pairs-ring a b c
-unfolding powerForm powers differences choose
-powers-three a b c = λ i. number-multiple (pos 1) a i ∷ number-multiple (pos 2) (minus b a) i ∷ number-multiple (pos 1) (minus (minus c b) (minus b a)) i ∷ []
+same-powers : (n m k : ℕ) (ds : List Pair) → powers n m k ds ≡ powersIn pairs-ring n m k ds
+unfolding powers
+same-powers zero m k ds = refl
+same-powers (suc n) m k [] = refl
+same-powers (suc n) m k (d ∷ ds) =
+    ap₂ _∷_ (number-multiple (pos (choose m k)) d) (same-powers n m (suc k) (differences (d ∷ ds)) ∙ ap (powersIn pairs-ring n m (suc k)) (same-differences (d ∷ ds)))
 
-powers-five : (a b c d e : Pair) → powerForm (a ∷ b ∷ c ∷ d ∷ e ∷ []) ≡ five pairs-ring a b c d e
-unfolding powerForm powers differences choose
-powers-five a b c d e =
-    let b0 = minus (minus c b) (minus b a) in
-    let b1 = minus (minus d c) (minus c b) in
-    let b2 = minus (minus e d) (minus d c) in
-    λ i. number-multiple (pos 1) a i ∷ number-multiple (pos 4) (minus b a) i ∷ number-multiple (pos 6) b0 i ∷ number-multiple (pos 4) (minus b1 b0) i ∷
-    number-multiple (pos 1) (minus (minus b2 b1) (minus b1 b0)) i ∷ []
+same-form : (ds : List Pair) → powerForm ds ≡ powerFormIn pairs-ring ds
+unfolding powerForm
+same-form ds = same-powers (length ds) (length ds - 1) 0 ds
+
+in-ring : (s : Source) (ds : List Pair) → Legs s ds → Same pairs (powerFormIn pairs-ring ds) (square pairs (powerFormIn pairs-ring (given s)))
+in-ring (cubic w0 w1) ds h = rw h (cubic-squared pairs-ring w0 w1)
+in-ring (quintic w0 w1 w2) ds (d, t, h) =
+    rw h
+    (quintic-squared pairs-ring w0 w1 w2 d (sym (number-multiple (pos 3) d) ∙ t ∙ ap (λ x. plus x (times w0 w2)) (number-multiple (pos 2) (times w1 w1))))
 
 pub legs-squared : (s : Source) (ds : List Pair) → Legs s ds → Same pairs (powerForm ds) (square pairs (powerForm (given s)))
-legs-squared (cubic w0 w1) ds h = rw (h, powers-three (times w0 w0) (times w0 w1) (times w1 w1), powers-two w0 w1) (cubic-squared pairs-ring w0 w1)
-legs-squared (quintic w0 w1 w2) ds (d, t, h) =
-    rw (h, powers-five (times w0 w0) (times w0 w1) d (times w1 w2) (times w2 w2), powers-three w0 w1 w2)
-    (quintic-squared pairs-ring w0 w1 w2 d (sym (number-multiple (pos 3) d) ∙ t ∙ ap (λ x. plus x (times w0 w2)) (number-multiple (pos 2) (times w1 w1))))
+legs-squared s ds l = rw (same-form ds, same-form (given s)) (in-ring s ds l)
