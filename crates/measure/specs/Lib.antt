@@ -1,0 +1,2 @@
+-- The definitions that the contracts cite: lengths, turning polynomials, the promises; `Steps` is for the parts of the program only.
+pub mod Turns
