@@ -4,3 +4,4 @@ pub mod Blends
 pub mod Most
 pub mod Seen
 pub mod Counts
+pub mod Sizes
