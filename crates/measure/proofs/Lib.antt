@@ -5,3 +5,6 @@ pub mod Most
 pub mod Seen
 pub mod Counts
 pub mod Sizes
+pub mod Once
+pub mod Arcs
+mod Examples
