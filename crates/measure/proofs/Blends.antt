@@ -1,11 +1,11 @@
 -- A quadratic by its values at the ends: a v² + b v e + c e², where v and e are the distances of a place from the end and from the start.
---   Before, Ordered           the place e₁ : v₁ lies before the place e₂ : v₂; three places in order
 --   blend, blend-flip         the value, up to a positive factor; seen from the other end
+--   along                     the same along 0 .. s, at e
 --   start-like, ends-like     where three values alternate, a has the sign of the first, and c too
 --   level-like, flat-like     where no two values have opposite signs: no two of a, b, c have; or b² ≤ 4 a c
 use mathlib.Core.Path.{_≡_, sym, subst, subst₂}
 use mathlib.Core.List.{[], _∷_}
-use lib.IntN.{ℤ, pos, negℤ, _+ℤ_, _-ℤ_, _*ℤ_, *ℤ-comm}
+use lib.IntN.{ℤ, pos, negℤ, _+ℤ_, _-ℤ_, _*ℤ_}
 use lib.Signed.{_≤ℤ_, _<ℤ_}
 use Rattle.whole.proofs.Wholes.{atomsℤ, readℤ, read-pos, ringℤ}
 use Rattle.whole.proofs.Linear.{linear, plus-parts, minus-parts, times-parts, negative-parts}
@@ -18,23 +18,18 @@ blend a b c v e = a *ℤ (v *ℤ v) +ℤ b *ℤ (v *ℤ e) +ℤ c *ℤ (e *ℤ e
 pub blend-flip : (a b c v e : ℤ) → blend a b c v e ≡ blend c b a e v
 blend-flip a b c v e = atomsℤ (a ∷ b ∷ c ∷ v ∷ e ∷ []) (λ ρ r. simp (r 0, r 1, r 2, r 3, r 4, readℤ) (ringℤ ρ _ _ tt))
 
-abbrev pub Before : ℤ → ℤ → ℤ → ℤ → Type 0
-Before v1 e1 v2 e2 = pos 0 <ℤ (e2 *ℤ v1 -ℤ e1 *ℤ v2)
+-- the value at e of 0 .. s
+abbrev pub along : ℤ → ℤ → ℤ → ℤ → ℤ → ℤ
+along a b c s e = blend a b c (s -ℤ e) e
+
+along-flip : (a b c s e : ℤ) → along c b a s (s -ℤ e) ≡ along a b c s e
+along-flip a b c s e = atomsℤ (a ∷ b ∷ c ∷ s ∷ e ∷ []) (λ ρ r. simp (r 0, r 1, r 2, r 3, r 4, readℤ) (ringℤ ρ _ _ tt))
 
 weak : {z : ℤ} → pos 0 <ℤ z → pos 0 ≤ℤ z
 weak h = omega linear
 
--- three places inside, one after the other
-pub record Ordered (v1 e1 v2 e2 v3 e3 : ℤ) : Type 0 where
-  pub v1-above : pos 0 <ℤ v1
-  pub v2-above : pos 0 <ℤ v2
-  pub v3-above : pos 0 <ℤ v3
-  pub e1-above : pos 0 <ℤ e1
-  pub e2-above : pos 0 <ℤ e2
-  pub e3-above : pos 0 <ℤ e3
-  pub first : Before v1 e1 v2 e2
-  pub second : Before v2 e2 v3 e3
-  pub both : Before v1 e1 v3 e3
+gap : {a b : ℤ} → a <ℤ b → pos 0 <ℤ (b -ℤ a)
+gap {a} {b} h = omega (linear, minus-parts b a)
 
 -- ---- three values that alternate
 -- a mean of them, with weights x, y and z, has the sign of the first
@@ -51,48 +46,41 @@ mean f1 f2 f3 {k} {s} {x} {y} {z} h l kk xx yy zz is =
       plus-parts (negℤ (f1 *ℤ f2) *ℤ y) (f1 *ℤ f3 *ℤ z),
     ))
 
--- the mean is Lagrange's: the value at e = 0 is a v²
-pub start-like : (a b c v1 e1 v2 e2 v3 e3 : ℤ) → Ordered v1 e1 v2 e2 v3 e3
-    → Unlike (blend a b c v1 e1) (blend a b c v2 e2) → Unlike (blend a b c v2 e2) (blend a b c v3 e3) → Like a (blend a b c v1 e1)
-start-like a b c v1 e1 v2 e2 v3 e3 o u w =
-    mean (blend a b c v1 e1) (blend a b c v2 e2) (blend a b c v3 e3) u w
-    (weak (positive-times (positive-times (o .first) (o .second)) (o .both)))
-    (weak (positive-times (positive-times (o .e2-above) (o .e3-above)) (o .second)))
-    (positive-times (positive-times (o .e1-above) (o .e3-above)) (o .both))
-    (weak (positive-times (positive-times (o .e1-above) (o .e2-above)) (o .first)))
-    (atomsℤ (a ∷ b ∷ c ∷ v1 ∷ e1 ∷ v2 ∷ e2 ∷ v3 ∷ e3 ∷ []) (λ ρ r. simp (r 0, r 1, r 2, r 3, r 4, r 5, r 6, r 7, r 8, readℤ) (ringℤ ρ _ _ tt)))
+-- the mean is Lagrange's: the value at 0 is a s²
+pub start-like : (a b c s p q r : ℤ) → pos 0 <ℤ p → p <ℤ q → q <ℤ r → r <ℤ s
+    → Unlike (along a b c s p) (along a b c s q) → Unlike (along a b c s q) (along a b c s r) → Like a (along a b c s p)
+start-like a b c s p q r hp hq hr hs u w =
+    let q-above : pos 0 <ℤ q = omega linear in
+    let r-above : pos 0 <ℤ r = omega linear in
+    let both : p <ℤ r = omega linear in
+    mean (along a b c s p) (along a b c s q) (along a b c s r) u w
+    (nonneg-times (weak (positive-times (positive-times (gap hq) (gap hr)) (gap both))) (nonneg-square s))
+    (weak (positive-times (positive-times q-above r-above) (gap hr)))
+    (positive-times (positive-times hp r-above) (gap both))
+    (weak (positive-times (positive-times hp q-above) (gap hq)))
+    (atomsℤ (a ∷ b ∷ c ∷ s ∷ p ∷ q ∷ r ∷ []) (λ ρ x. simp (x 0, x 1, x 2, x 3, x 4, x 5, x 6, readℤ) (ringℤ ρ _ _ tt)))
 
-before-flip : (v1 e1 v2 e2 : ℤ) → Before v1 e1 v2 e2 → Before e2 v2 e1 v1
-before-flip v1 e1 v2 e2 = subst (λ z. pos 0 <ℤ z) (atomsℤ (v1 ∷ e1 ∷ v2 ∷ e2 ∷ []) (λ ρ r. simp (r 0, r 1, r 2, r 3, readℤ) (ringℤ ρ _ _ tt)))
+-- seen from the other end: c has the sign of the last
+end-like : (a b c s p q r : ℤ) → pos 0 <ℤ p → p <ℤ q → q <ℤ r → r <ℤ s
+    → Unlike (along a b c s p) (along a b c s q) → Unlike (along a b c s q) (along a b c s r) → Like c (along a b c s r)
+end-like a b c s p q r hp hq hr hs u w =
+    subst (Like c) (along-flip a b c s r)
+    (start-like c b a s (s -ℤ r) (s -ℤ q) (s -ℤ p) (gap hs) (back hr) (back hq) (omega (linear, minus-parts s p)) (turned q r w) (turned p q u))
+  where
+    back : {d e : ℤ} → d <ℤ e → (s -ℤ e) <ℤ (s -ℤ d)
+    back {d} {e} h = omega (linear, minus-parts s d, minus-parts s e)
 
-ordered-flip : (v1 e1 v2 e2 v3 e3 : ℤ) → Ordered v1 e1 v2 e2 v3 e3 → Ordered e3 v3 e2 v2 e1 v1
-ordered-flip v1 e1 v2 e2 v3 e3 o = record {
-  v1-above = o .e3-above;
-  v2-above = o .e2-above;
-  v3-above = o .e1-above;
-  e1-above = o .v3-above;
-  e2-above = o .v2-above;
-  e3-above = o .v1-above;
-  first = before-flip v2 e2 v3 e3 (o .second);
-  second = before-flip v1 e1 v2 e2 (o .first);
-  both = before-flip v1 e1 v3 e3 (o .both);
-}
+    turned : (d e : ℤ) → Unlike (along a b c s d) (along a b c s e) → Unlike (along c b a s (s -ℤ e)) (along c b a s (s -ℤ d))
+    turned d e h =
+        unlike-flip (along c b a s (s -ℤ d)) (along c b a s (s -ℤ e)) (subst₂ Unlike (sym (along-flip a b c s d)) (sym (along-flip a b c s e)) h)
 
-unlike-turned : (a b c v1 e1 v2 e2 : ℤ) → Unlike (blend a b c v1 e1) (blend a b c v2 e2) → Unlike (blend c b a e2 v2) (blend c b a e1 v1)
-unlike-turned a b c v1 e1 v2 e2 h =
-    unlike-flip (blend c b a e1 v1) (blend c b a e2 v2) (subst₂ Unlike (blend-flip a b c v1 e1) (blend-flip a b c v2 e2) h)
-
--- so it is at the other end, and the two ends have one sign
-pub ends-like : (a b c v1 e1 v2 e2 v3 e3 : ℤ) → Ordered v1 e1 v2 e2 v3 e3
-    → Unlike (blend a b c v1 e1) (blend a b c v2 e2) → Unlike (blend a b c v2 e2) (blend a b c v3 e3) → Like a c
-ends-like a b c v1 e1 v2 e2 v3 e3 o u w =
-    let f1 = blend a b c v1 e1 in
-    let f2 = blend a b c v2 e2 in
-    let f3 = blend a b c v3 e3 in
-    let last : Like c f3 =
-    rw (blend-flip a b c v3 e3)
-    (start-like c b a e3 v3 e2 v2 e1 v1 (ordered-flip v1 e1 v2 e2 v3 e3 o) (unlike-turned a b c v2 e2 v3 e3 w) (unlike-turned a b c v1 e1 v2 e2 u)) in
-    like-like a f3 c (like-like a f1 f3 (start-like a b c v1 e1 v2 e2 v3 e3 o u w) (unlike-unlike f1 f2 f3 u w)) (like-flip c f3 last)
+pub ends-like : (a b c s p q r : ℤ) → pos 0 <ℤ p → p <ℤ q → q <ℤ r → r <ℤ s
+    → Unlike (along a b c s p) (along a b c s q) → Unlike (along a b c s q) (along a b c s r) → Like a c
+ends-like a b c s p q r hp hq hr hs u w =
+    let f = along a b c s p in
+    let g = along a b c s r in
+    like-like a g c (like-like a f g (start-like a b c s p q r hp hq hr hs u w) (unlike-unlike f (along a b c s q) g u w))
+    (like-flip c g (end-like a b c s p q r hp hq hr hs u w))
 
 -- ---- two values that cannot have opposite signs
 pub level-like : (a b c v1 e1 v2 e2 : ℤ) → pos 0 ≤ℤ v1 → pos 0 ≤ℤ e1 → pos 0 ≤ℤ v2 → pos 0 ≤ℤ e2

@@ -8,20 +8,20 @@
 use mathlib.Core.Path.{_≡_, refl, ap, subst₂}
 use mathlib.Core.List.{[], _∷_}
 use mathlib.Core.Logic.{_⊎_, inl, inr, ⊎-map}
-use Prim.Native.Nat.{ℕ, _-_, _<_}
+use Prim.Native.Nat.{ℕ, _<_}
 use native.Mathlib.Nat.{le-refl}
 use native.Mathlib.Omega.{arith}
-use lib.IntN.{ℤ, pos, _+ℤ_, _*ℤ_, *ℤ-comm, *ℤ-zero, zero-*ℤ}
+use lib.IntN.{ℤ, pos, _+ℤ_, _-ℤ_, _*ℤ_, *ℤ-comm, *ℤ-zero, zero-*ℤ}
 use lib.Signed.{_≤ℤ_, _<ℤ_}
 use Rattle.whole.proofs.Integers.{*ℤ-domain, *ℤ-plus}
 use Rattle.whole.proofs.Wholes.{atomsℤ, readℤ, ringℤ}
-use Rattle.whole.proofs.Linear.{linear, plus-parts}
+use Rattle.whole.proofs.Linear.{linear, plus-parts, minus-parts}
 use Rattle.whole.proofs.Order.{nonneg-square, compare}
 use Rattle.measure.specs.declared.Turning.{Turning}
 use Rattle.measure.specs.Turns.{CountIs}
 use Rattle.measure.proofs.Signs.{Like, Unlike, like-flip, unlike-flip, like-unlike, unlike-unlike}
-use Rattle.measure.proofs.Blends.{level-like, flat-like}
-use Rattle.measure.proofs.Most.{startOf, middleOf, endOf, blendOf, place, at-most-0, at-most-1, at-most-2}
+use Rattle.measure.proofs.Blends.{along, level-like, flat-like}
+use Rattle.measure.proofs.Most.{startOf, middleOf, endOf, blendOf, turn-along, at-most-0, at-most-1, at-most-2}
 use Rattle.measure.proofs.Seen.{Far, enough, enough-far, near, near-zero, near-end, near-end-zero, seen-none, seen-once, seen-twice}
 
 spread : (a b c : ℤ) → b *ℤ (a +ℤ c) ≡ a *ℤ b +ℤ b *ℤ c
@@ -56,20 +56,23 @@ module _ (x : Turning) where
   c = endOf x
 
   -- ---- none
-  none : ((s p q : ℕ) → p < q → q < s → Unlike (blendOf x (pos (s - p)) (pos p)) (blendOf x (pos (s - q)) (pos q)) → ⊥) → CountIs x 0
+  none : ((s p q : ℕ) → p < q → q < s → Unlike (along a b c (pos s) (pos p)) (along a b c (pos s) (pos q)) → ⊥) → CountIs x 0
   none never = record {
     reached = ⊎-map (λ s. (s, refl)) (λ s. s) (seen-none x);
-    most = at-most-0 x (λ s p q h k u. never s p q h k (subst₂ Unlike (place x s p (omega arith)) (place x s q k) u));
+    most = at-most-0 x (λ s p q h k u. never s p q h k (subst₂ Unlike (turn-along x s p) (turn-along x s q) u));
   }
 
   pub count-level : pos 0 ≤ℤ (a *ℤ c) → pos 0 ≤ℤ (b *ℤ (a +ℤ c)) → CountIs x 0
   count-level h k =
       let (ab, bc) = level-signs a b c h k in
       none (λ s p q l m u.
-      let n = level-like a b c (pos (s - p)) (pos p) (pos (s - q)) (pos q) (omega linear) (omega linear) (omega linear) (omega linear) ab h bc in omega linear)
+      let n =
+      level-like a b c (pos s -ℤ pos p) (pos p) (pos s -ℤ pos q) (pos q)
+      (omega (linear, minus-parts (pos s) (pos p))) (omega linear) (omega (linear, minus-parts (pos s) (pos q))) (omega linear) ab h bc in
+      omega linear)
 
   pub count-flat : pos 0 <ℤ (a *ℤ c) → (b *ℤ b) ≤ℤ (a *ℤ c *ℤ pos 4) → CountIs x 0
-  count-flat h d = none (λ s p q l m u. flat-like a b c (pos (s - p)) (pos p) (pos (s - q)) (pos q) h d u)
+  count-flat h d = none (λ s p q l m u. flat-like a b c (pos s -ℤ pos p) (pos p) (pos s -ℤ pos q) (pos q) h d u)
 
   -- ---- one: beside the start the value has the sign of p, and beside the end that of q
   one : (p q : ℤ) → Like p (blendOf x (pos (enough a b c)) (pos 1)) → Like q (blendOf x (pos 1) (pos (enough a b c))) → Unlike p q → (a *ℤ c) ≤ℤ pos 0 → CountIs x 1

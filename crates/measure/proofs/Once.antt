@@ -21,7 +21,7 @@ use Rattle.measure.specs.declared.InflectionAnswer.{InflectionAnswer}
 use Rattle.measure.specs.declared.InflectionAnswer.the-variants as I
 use Rattle.measure.specs.declared.Turning.{Turning}
 use Rattle.measure.specs.Turns.{turningOf, Straight, CountIs}
-use Rattle.measure.specs.Promises.{causes, numberOfLength, valuesOfLength, numberOfInflections, Inflects, Measured, Inflected}
+use Rattle.measure.specs.Promises.{causes, numberOfLength, valuesOfLength, numberOfInflections, Measured, Inflected}
 use Rattle.measure.specs.Steps.{lengthBy}
 use Rattle.measure.proofs.Most.{count-once}
 

@@ -3,13 +3,13 @@
 --   near, near-zero        one step from the end with the number a, the value has the sign of a; where a is 0, that of b
 --   seen-none              a value that is not 0, or none
 --   seen-once, seen-twice
-use mathlib.Core.Path.{_≡_, refl, sym, ap, ap₂, _∙_, subst}
+use mathlib.Core.Path.{_≡_, refl, sym, ap₂, _∙_, subst}
 use mathlib.Core.List.{[], _∷_}
-use mathlib.Core.Logic.{_≢_, _⊎_, inl, inr}
+use mathlib.Core.Logic.{_⊎_, inl, inr}
 use Prim.Native.Nat.{ℕ, _+_, _*_, _-_, _≤_, _<_}
 use native.Mathlib.Nat.{le-mul-of-pos-right}
 use native.Mathlib.Omega.{arith}
-use lib.IntN.{ℤ, pos, negsuc, negℤ, natAbs, _+ℤ_, _-ℤ_, _*ℤ_, *ℤ-comm}
+use lib.IntN.{ℤ, pos, negℤ, natAbs, _+ℤ_, _-ℤ_, _*ℤ_, *ℤ-comm}
 use lib.Signed.{_≤ℤ_, _<ℤ_}
 use Rattle.whole.proofs.Wholes.{atomsℤ, readℤ, read-pos, read-negsuc, ringℤ}
 use Rattle.whole.proofs.Linear.{linear, up, dn, plus-parts, minus-parts, times-parts, negative-parts, abs-parts}
@@ -75,9 +75,6 @@ pub near-end-zero : (a b c : ℤ) (m : ℕ) → Far a b c m → c ≡ pos 0 → 
 near-end-zero a b c m f z h = rw (blend-flip a b c (pos 1) (pos m)) (near-zero c b a m (far-flip a b c f) z h)
 
 -- ---- no change: of three values one is not 0, or the polynomial is
-seen-at : (x : Turning) (e : ℕ) → 0 < e → e < 4 → turnAt x 4 e ≢ pos 0 → Changes x 0
-seen-at x e h k n = record { s = 4; es = e ∷ []; inside = (h, k); many = refl; alternate = n }
-
 zero-parts : (t0 t1 t2 : ℤ) (i j k : ℕ) → t0 *ℤ pos i +ℤ t1 *ℤ pos j +ℤ t2 *ℤ pos k ≡ pos 0
     → up t0 * i + up t1 * j + up t2 * k ≡ dn t0 * i + dn t1 * j + dn t2 * k
 zero-parts t0 t1 t2 i j k h = omega (
@@ -90,7 +87,8 @@ zero-parts t0 t1 t2 i j k h = omega (
 )
 
 pub seen-none : (x : Turning) → Straight x ⊎ Changes x 0
-seen-none x = first (whole-zero? (turnAt x 4 1))
+seen-none x =
+    seen 1 (omega arith) (omega arith) (λ h. seen 2 (omega arith) (omega arith) (λ k. seen 3 (omega arith) (omega arith) (λ l. inl (straight h k l))))
   where
     straight : turnAt x 4 1 ≡ pos 0 → turnAt x 4 2 ≡ pos 0 → turnAt x 4 3 ≡ pos 0 → Straight x
     straight h k l =
@@ -99,17 +97,12 @@ seen-none x = first (whole-zero? (turnAt x 4 1))
         let c = zero-parts (x .t0) (x .t1) (x .t2) 16 12 9 l in
         (omega linear, omega linear, omega linear)
 
-    third : turnAt x 4 1 ≡ pos 0 → turnAt x 4 2 ≡ pos 0 → Dec (turnAt x 4 3 ≡ pos 0) → Straight x ⊎ Changes x 0
-    third h k (yes l) = inl (straight h k l)
-    third h k (no l) = inr (seen-at x 3 (omega arith) (omega arith) l)
-
-    second : turnAt x 4 1 ≡ pos 0 → Dec (turnAt x 4 2 ≡ pos 0) → Straight x ⊎ Changes x 0
-    second h (yes k) = third h k (whole-zero? (turnAt x 4 3))
-    second h (no k) = inr (seen-at x 2 (omega arith) (omega arith) k)
-
-    first : Dec (turnAt x 4 1 ≡ pos 0) → Straight x ⊎ Changes x 0
-    first (yes h) = second h (whole-zero? (turnAt x 4 2))
-    first (no h) = inr (seen-at x 1 (omega arith) (omega arith) h)
+    seen : (e : ℕ) → 0 < e → e < 4 → (turnAt x 4 e ≡ pos 0 → Straight x ⊎ Changes x 0) → Straight x ⊎ Changes x 0
+    seen e h k else = by (whole-zero? (turnAt x 4 e))
+      where
+        by : Dec (turnAt x 4 e ≡ pos 0) → Straight x ⊎ Changes x 0
+        by (yes z) = else z
+        by (no n) = inr (record { s = 4; es = e ∷ []; inside = (h, k); many = refl; alternate = n })
 
 -- ---- two changes: where a c > 0 the value at e : v = 2 a² : − a b has the other sign than a
 lowest : (a b c k w z : ℤ) → w ≡ negℤ (a *ℤ b) → z ≡ a *ℤ a → pos 0 <ℤ k → Like a a → (a *ℤ c *ℤ pos 4) <ℤ (b *ℤ b)

@@ -6,7 +6,7 @@
 --   carried                               two numbers with opposite signs give their signs to two others
 --   unlike-some                           where signs are opposite no number is 0
 -- Nothing here is of turning polynomials: it could stand beside Order of `whole`.
-use mathlib.Core.Path.{_≡_, sym, ap, subst}
+use mathlib.Core.Path.{_≡_, ap, subst}
 use mathlib.Core.List.{[], _∷_}
 use mathlib.Core.Logic.{_≢_, _⊎_, inl, inr}
 use lib.IntN.{ℤ, pos, negℤ, _*ℤ_, *ℤ-comm, *ℤ-zero}

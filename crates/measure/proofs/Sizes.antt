@@ -4,8 +4,8 @@
 --   cross-within              so a cross product is at most 8,000,000,
 --   turning-moderate          and the turning polynomial is moderate
 use mathlib.Core.Path.{refl}
-use mathlib.Core.List.{List, [], _∷_}
-use mathlib.Core.Logic.{inl, inr}
+use mathlib.Core.List.{List}
+use mathlib.Core.Logic.{inl, inr, Dec·not-not}
 use Prim.Native.Nat.{ℕ, _≤_}
 use native.Mathlib.Decide.{decLe}
 use native.Mathlib.Omega.{arith}
@@ -33,11 +33,7 @@ use Rattle.measure.specs.Steps.{Moderate}
 
 -- what does not fail to be within its bound is within it
 within-sure : {b : ℕ} {x : ℤ} → ((Within b x → ⊥) → ⊥) → Within b x
-within-sure {b} {x} h = by (decLe (natAbs x) b)
-  where
-    by : Dec (natAbs x ≤ b) → Within b x
-    by (yes l) = record { size = l }
-    by (no l) = absurd (h (λ w. l (w .size)))
+within-sure {b} {x} h = record { size = Dec·not-not (decLe (natAbs x) b) .0 (λ n. h (λ w. n (w .size))) }
 
 module _ (ps : List Pair) (l : length ps ≤ 6) (p : Preimage) (h : Preimaged ps (Found p)) where
   passed : First (causes ps) 0 → ((InRange ps → ⊥) → ⊥) × (Still (legPolynomial ps) → ⊥)

@@ -5,7 +5,6 @@ use mir.Facts.{sfits-lit}
 use mir.Syntax.{w64}
 use mir.Val.{SFits, ofZ}
 use Rattle.whole.proofs.Machine.{same-bits}
-use Rattle.measure.specs.declared.Turning.{Turning}
 use Rattle.measure.proofs.counting.is_straight.Statement.{statement}
 use Rattle.measure.proofs.counting.is_straight.Tie as tie
 
