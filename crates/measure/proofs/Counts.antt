@@ -5,45 +5,41 @@
 --   count-deep       a c > 0, b (a + c) < 0 and b² > 4 a c: two
 --   count-flat       a c > 0 and b² ≤ 4 a c: none
 --   counted          so every polynomial has a count; `count-once` of Most says that it has one only
-use mathlib.Core.Path.{_≡_, refl, ap, subst₂}
+use mathlib.Core.Path.{_≡_, refl, ap}
 use mathlib.Core.List.{[], _∷_}
 use mathlib.Core.Logic.{_⊎_, inl, inr, ⊎-map}
 use Prim.Native.Nat.{ℕ, _<_}
 use native.Mathlib.Nat.{le-refl}
 use native.Mathlib.Omega.{arith}
-use lib.IntN.{ℤ, pos, _+ℤ_, _-ℤ_, _*ℤ_, *ℤ-comm, *ℤ-zero, zero-*ℤ}
+use lib.IntN.{ℤ, pos, _+ℤ_, _-ℤ_, _*ℤ_, +ℤ-comm, *ℤ-comm, *ℤ-zero, zero-*ℤ}
 use lib.Signed.{_≤ℤ_, _<ℤ_}
 use Rattle.whole.proofs.Integers.{*ℤ-domain, *ℤ-plus}
 use Rattle.whole.proofs.Wholes.{atomsℤ, readℤ, ringℤ}
 use Rattle.whole.proofs.Linear.{linear, plus-parts, minus-parts}
-use Rattle.whole.proofs.Order.{nonneg-square, compare}
+use Rattle.whole.proofs.Order.{nonneg-times, nonneg-square, compare}
 use Rattle.measure.specs.declared.Turning.{Turning}
 use Rattle.measure.specs.Turns.{CountIs}
-use Rattle.measure.proofs.Signs.{Like, Unlike, like-flip, unlike-flip, like-unlike, unlike-unlike}
-use Rattle.measure.proofs.Blends.{along, level-like, flat-like}
-use Rattle.measure.proofs.Most.{startOf, middleOf, endOf, blendOf, turn-along, at-most-0, at-most-1, at-most-2}
+use Rattle.measure.proofs.Signs.{Like, Unlike, mixed-times, unlike-flip, like-unlike, unlike-unlike}
+use Rattle.measure.proofs.Blends.{level-like, flat-like}
+use Rattle.measure.proofs.Most.{startOf, middleOf, endOf, blendOf, at-place, at-most-0, at-most-1, at-most-2}
 use Rattle.measure.proofs.Seen.{Far, enough, enough-far, near, near-zero, near-end, near-end-zero, seen-none, seen-once, seen-twice}
 
 spread : (a b c : ℤ) → b *ℤ (a +ℤ c) ≡ a *ℤ b +ℤ b *ℤ c
 spread a b c = atomsℤ (a ∷ b ∷ c ∷ []) (λ ρ e. simp (e 0, e 1, e 2, readℤ) (ringℤ ρ _ _ tt))
 
--- b cannot differ in sign from one of a and c alone
-level-signs : (a b c : ℤ) → pos 0 ≤ℤ (a *ℤ c) → pos 0 ≤ℤ (b *ℤ (a +ℤ c)) → (pos 0 ≤ℤ (a *ℤ b)) × (pos 0 ≤ℤ (b *ℤ c))
-level-signs a b c h k = (left (compare (pos 0) (a *ℤ b)), right (compare (pos 0) (b *ℤ c)))
-  where
-    left : (pos 0 ≤ℤ (a *ℤ b)) ⊎ Unlike a b → pos 0 ≤ℤ (a *ℤ b)
-    left (inl l) = l
-    left (inr l) =
-        let like : Like b c = omega (linear, spread a b c, plus-parts (a *ℤ b) (b *ℤ c)) in
-        let unlike = like-unlike c b a (like-flip b c like) (unlike-flip a b l) in
-        absurd (omega (linear, *ℤ-comm a c))
+folded : (a b c : ℤ) → a *ℤ b *ℤ (b *ℤ c) ≡ b *ℤ b *ℤ (a *ℤ c)
+folded a b c = atomsℤ (a ∷ b ∷ c ∷ []) (λ ρ e. simp (e 0, e 1, e 2, readℤ) (ringℤ ρ _ _ tt))
 
-    right : (pos 0 ≤ℤ (b *ℤ c)) ⊎ Unlike b c → pos 0 ≤ℤ (b *ℤ c)
-    right (inl l) = l
-    right (inr l) =
-        let like : Like a b = omega (linear, spread a b c, plus-parts (a *ℤ b) (b *ℤ c)) in
-        let unlike = like-unlike a b c like l in
-        absurd (omega linear)
+-- of two numbers with a sum and a product that are not negative, neither is
+not-negative : (u v : ℤ) → pos 0 ≤ℤ (u +ℤ v) → pos 0 ≤ℤ (u *ℤ v) → pos 0 ≤ℤ u
+not-negative u v h k = by (compare (pos 0) u)
+  where
+    by : (pos 0 ≤ℤ u) ⊎ (u <ℤ pos 0) → pos 0 ≤ℤ u
+    by (inl l) = l
+    by (inr l) =
+        let v-above : pos 0 <ℤ v = omega (linear, plus-parts u v) in
+        let below = mixed-times v-above l in
+        absurd (omega (linear, *ℤ-comm u v))
 
 module _ (x : Turning) where
   abbrev a : ℤ
@@ -56,15 +52,15 @@ module _ (x : Turning) where
   c = endOf x
 
   -- ---- none
-  none : ((s p q : ℕ) → p < q → q < s → Unlike (along a b c (pos s) (pos p)) (along a b c (pos s) (pos q)) → ⊥) → CountIs x 0
-  none never = record {
-    reached = ⊎-map (λ s. (s, refl)) (λ s. s) (seen-none x);
-    most = at-most-0 x (λ s p q h k u. never s p q h k (subst₂ Unlike (turn-along x s p) (turn-along x s q) u));
-  }
+  none : ((s p q : ℕ) → p < q → q < s → Unlike (at-place x s p) (at-place x s q) → ⊥) → CountIs x 0
+  none never = record { reached = ⊎-map (λ s. (s, refl)) (λ s. s) (seen-none x); most = at-most-0 x never }
 
   pub count-level : pos 0 ≤ℤ (a *ℤ c) → pos 0 ≤ℤ (b *ℤ (a +ℤ c)) → CountIs x 0
   count-level h k =
-      let (ab, bc) = level-signs a b c h k in
+      let sum = rw (spread a b c) at k in
+      let product : pos 0 ≤ℤ (a *ℤ b *ℤ (b *ℤ c)) = rw (folded a b c) (nonneg-times (nonneg-square b) h) in
+      let ab = not-negative (a *ℤ b) (b *ℤ c) sum product in
+      let bc = not-negative (b *ℤ c) (a *ℤ b) (rw (+ℤ-comm (b *ℤ c) (a *ℤ b)) sum) (rw (*ℤ-comm (b *ℤ c) (a *ℤ b)) product) in
       none (λ s p q l m u.
       let n =
       level-like a b c (pos s -ℤ pos p) (pos p) (pos s -ℤ pos q) (pos q)

@@ -1,7 +1,8 @@
 -- How many changes of sign a turning polynomial can show, and that a count has one answer.
 --   startOf, middleOf, endOf    its value at 0; twice its middle Bernstein coefficient; its value at 1
---   turn-along, turn-is         the value at a fraction, by these
---   at-most-0, at-most-1, at-most-2
+--   at-place, turn-is           the value at a fraction, by these
+--   at-most-0                   no change, where no two values have opposite signs;
+--   at-most-1, at-most-2        one, where the values at 0 and 1 have not the same sign; two in any case
 --   count-once                  at most one number is the count
 use mathlib.Core.Path.{_≡_, ap, _∙_, subst₂}
 use mathlib.Core.List.{List, [], _∷_, map}
@@ -30,7 +31,7 @@ endOf x = x .t0 +ℤ x .t1 +ℤ x .t2
 abbrev pub blendOf : Turning → ℤ → ℤ → ℤ
 blendOf x = blend (startOf x) (middleOf x) (endOf x)
 
-pub turn-along : (x : Turning) (s e : ℕ) → turnAt x s e ≡ along (startOf x) (middleOf x) (endOf x) (pos s) (pos e)
+turn-along : (x : Turning) (s e : ℕ) → turnAt x s e ≡ along (startOf x) (middleOf x) (endOf x) (pos s) (pos e)
 turn-along x s e = wholly (x .t0) (x .t1) (x .t2) (pos s) (pos e)
   where
     wholly : (t0 t1 t2 s e : ℤ) → t0 *ℤ (s *ℤ s) +ℤ t1 *ℤ (e *ℤ s) +ℤ t2 *ℤ (e *ℤ e) ≡ along t0 (t0 *ℤ pos 2 +ℤ t1) (t0 +ℤ t1 +ℤ t2) s e
@@ -47,7 +48,7 @@ under low s [] h = h
 under low s (e ∷ es) h = omega (arith, h .0, under e s es (h .1))
 
 module _ (x : Turning) where
-  abbrev at-place : ℕ → ℕ → ℤ
+  abbrev pub at-place : ℕ → ℕ → ℤ
   at-place s e = along (startOf x) (middleOf x) (endOf x) (pos s) (pos e)
 
   unlike-places : (s p q : ℕ) → Unlike (turnAt x s p) (turnAt x s q) → Unlike (at-place s p) (at-place s q)
@@ -72,10 +73,10 @@ module _ (x : Turning) where
       omega linear
 
   -- ---- the same of a list of places
-  long-1 : ((s p q : ℕ) → p < q → q < s → Unlike (turnAt x s p) (turnAt x s q) → ⊥) → (s : ℕ) (es : List ℕ) → Ascending 0 s es → Alternate (map (turnAt x s) es) → length es ≤ 1
+  long-1 : ((s p q : ℕ) → p < q → q < s → Unlike (at-place s p) (at-place s q) → ⊥) → (s : ℕ) (es : List ℕ) → Ascending 0 s es → Alternate (map (turnAt x s) es) → length es ≤ 1
   long-1 never s [] a h = omega arith
   long-1 never s (p ∷ []) a h = omega arith
-  long-1 never s (p ∷ q ∷ es) a h = absurd (never s p q (a .1 .0) (under q s es (a .1 .1)) (h .0))
+  long-1 never s (p ∷ q ∷ es) a h = absurd (never s p q (a .1 .0) (under q s es (a .1 .1)) (unlike-places s p q (h .0)))
 
   long-2 : (Like (startOf x) (endOf x) → ⊥) → (s : ℕ) (es : List ℕ) → Ascending 0 s es → Alternate (map (turnAt x s) es) → length es ≤ 2
   long-2 never s [] a h = omega arith
@@ -91,7 +92,7 @@ module _ (x : Turning) where
   long-3 s (p ∷ q ∷ r ∷ t ∷ es) a h =
       absurd (four s p q r t (a .0) (a .1 .0) (a .1 .1 .0) (a .1 .1 .1 .0) (under t s es (a .1 .1 .1 .1)) (h .0) (h .1 .0) (h .1 .1 .0))
 
-  pub at-most-0 : ((s p q : ℕ) → p < q → q < s → Unlike (turnAt x s p) (turnAt x s q) → ⊥) → (j : ℕ) → Changes x j → j ≤ 0
+  pub at-most-0 : ((s p q : ℕ) → p < q → q < s → Unlike (at-place s p) (at-place s q) → ⊥) → (j : ℕ) → Changes x j → j ≤ 0
   at-most-0 never j c = omega (arith, long-1 never (c .s) (c .es) (c .inside) (c .alternate), c .many)
 
   pub at-most-1 : (Like (startOf x) (endOf x) → ⊥) → (j : ℕ) → Changes x j → j ≤ 1

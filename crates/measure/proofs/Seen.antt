@@ -1,8 +1,9 @@
 -- Fractions at which a turning polynomial shows its changes of sign: beside the ends, and one between.
---   Far, far-flip          a number so large that one step from an end is close enough
---   near, near-zero        one step from the end with the number a, the value has the sign of a; where a is 0, that of b
---   seen-none              a value that is not 0, or none
---   seen-once, seen-twice
+--   Far, enough-far              a number so large that one step from an end is close enough
+--   near, near-zero              one step from the start the value has the sign of a; where a is 0, that of b
+--   near-end, near-end-zero      one step from the end that of c; where c is 0, that of b
+--   seen-none                    a value that is not 0, or none
+--   seen-once, seen-twice        one change; two
 use mathlib.Core.Path.{_≡_, refl, sym, ap₂, _∙_, subst}
 use mathlib.Core.List.{[], _∷_}
 use mathlib.Core.Logic.{_⊎_, inl, inr}
@@ -27,7 +28,7 @@ pub record Far (a b c : ℤ) (m : ℕ) : Type 0 where
   pub ac : natAbs (a *ℤ c) < m
   pub bc : natAbs (b *ℤ c) < m
 
-pub far-flip : {m : ℕ} (a b c : ℤ) → Far a b c m → Far c b a m
+far-flip : {m : ℕ} (a b c : ℤ) → Far a b c m → Far c b a m
 far-flip {m} a b c f = record {
   ab = subst (λ z. natAbs z < m) (*ℤ-comm b c) (f .bc);
   ac = subst (λ z. natAbs z < m) (*ℤ-comm a c) (f .ac);
@@ -74,6 +75,18 @@ near-end a b c m f h = rw (blend-flip a b c (pos 1) (pos m)) (near c b a m (far-
 pub near-end-zero : (a b c : ℤ) (m : ℕ) → Far a b c m → c ≡ pos 0 → Like b b → Like b (blend a b c (pos 1) (pos m))
 near-end-zero a b c m f z h = rw (blend-flip a b c (pos 1) (pos m)) (near-zero c b a m (far-flip a b c f) z h)
 
+-- ---- between the ends: the value at e : v = 2 a² : − a b has the other sign than a
+lowest : (a b c k w z : ℤ) → w ≡ negℤ (a *ℤ b) → z ≡ a *ℤ a → pos 0 <ℤ k → Like a a → (a *ℤ c *ℤ pos 4) <ℤ (b *ℤ b)
+    → Unlike a (blend a b c (k *ℤ w) (k *ℤ (z *ℤ pos 2)))
+lowest a b c k w z w-is z-is h some d =
+    let below : (a *ℤ c *ℤ pos 4 -ℤ b *ℤ b) <ℤ pos 0 = omega (linear, minus-parts (a *ℤ c *ℤ pos 4) (b *ℤ b)) in
+    subst (λ y. y <ℤ pos 0)
+    (sym (ap₂ (λ s t. a *ℤ blend a b c (k *ℤ s) (k *ℤ (t *ℤ pos 2))) w-is z-is ∙ gathered))
+    (mixed-times (positive-times (positive-times h h) (positive-times some some)) below)
+  where
+    gathered : a *ℤ blend a b c (k *ℤ negℤ (a *ℤ b)) (k *ℤ (a *ℤ a *ℤ pos 2)) ≡ k *ℤ k *ℤ (a *ℤ a *ℤ (a *ℤ a)) *ℤ (a *ℤ c *ℤ pos 4 -ℤ b *ℤ b)
+    gathered = atomsℤ (a ∷ b ∷ c ∷ k ∷ []) (λ ρ e. simp (e 0, e 1, e 2, e 3, readℤ, read-pos ρ) (ringℤ ρ _ _ tt))
+
 -- ---- no change: of three values one is not 0, or the polynomial is
 zero-parts : (t0 t1 t2 : ℤ) (i j k : ℕ) → t0 *ℤ pos i +ℤ t1 *ℤ pos j +ℤ t2 *ℤ pos k ≡ pos 0
     → up t0 * i + up t1 * j + up t2 * k ≡ dn t0 * i + dn t1 * j + dn t2 * k
@@ -103,18 +116,6 @@ seen-none x =
         by : Dec (turnAt x 4 e ≡ pos 0) → Straight x ⊎ Changes x 0
         by (yes z) = else z
         by (no n) = inr (record { s = 4; es = e ∷ []; inside = (h, k); many = refl; alternate = n })
-
--- ---- two changes: where a c > 0 the value at e : v = 2 a² : − a b has the other sign than a
-lowest : (a b c k w z : ℤ) → w ≡ negℤ (a *ℤ b) → z ≡ a *ℤ a → pos 0 <ℤ k → Like a a → (a *ℤ c *ℤ pos 4) <ℤ (b *ℤ b)
-    → Unlike a (blend a b c (k *ℤ w) (k *ℤ (z *ℤ pos 2)))
-lowest a b c k w z w-is z-is h some d =
-    let below : (a *ℤ c *ℤ pos 4 -ℤ b *ℤ b) <ℤ pos 0 = omega (linear, minus-parts (a *ℤ c *ℤ pos 4) (b *ℤ b)) in
-    subst (λ y. y <ℤ pos 0)
-    (sym (ap₂ (λ s t. a *ℤ blend a b c (k *ℤ s) (k *ℤ (t *ℤ pos 2))) w-is z-is ∙ gathered))
-    (mixed-times (positive-times (positive-times h h) (positive-times some some)) below)
-  where
-    gathered : a *ℤ blend a b c (k *ℤ negℤ (a *ℤ b)) (k *ℤ (a *ℤ a *ℤ pos 2)) ≡ k *ℤ k *ℤ (a *ℤ a *ℤ (a *ℤ a)) *ℤ (a *ℤ c *ℤ pos 4 -ℤ b *ℤ b)
-    gathered = atomsℤ (a ∷ b ∷ c ∷ k ∷ []) (λ ρ e. simp (e 0, e 1, e 2, e 3, readℤ, read-pos ρ) (ringℤ ρ _ _ tt))
 
 -- ---- one change: the value beside the start has the sign of p, and that beside the end the sign of q
 module _ (x : Turning) where

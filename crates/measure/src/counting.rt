@@ -9,6 +9,7 @@ ghost use Rattle.root.specs.Pairs.{quadratic};
 ghost use Rattle.measure.specs.Turns.{cross, turningOf, Straight, CountIs};
 ghost use Rattle.measure.specs.Steps.{Moderate};
 
+// x_jk of two coefficients of w.
 fn cross(a: Pair, b: Pair) -> i64
     requires { ⌜ PartsWithin 2000 a × PartsWithin 2000 b ⌝ }
     ensures { λ r. ⌜ r ≡ cross a b ⌝ }
@@ -37,7 +38,7 @@ pub(crate) fn turning(w: Quadratic) -> Turning
     }
 }
 
-// By a and c, the values at the ends, and b, twice the coefficient between them in Bernstein's form.
+// The signs of a and c, the values at the ends, and of b, twice the Bernstein coefficient between them, decide; the discriminant is b^2 - 4 a c.
 pub(crate) fn count(x: Turning) -> u8
     requires { ⌜ Moderate x ⌝ }
     ensures { λ k. ⌜ CountIs x k ⌝ }

@@ -27,7 +27,7 @@ pub enum LengthAnswer {
     Refused(Refusal),
 }
 
-// t0 + t1 t + t2 t^2, whose sign is that of the curvature
+// t0 + t1 t + t2 t^2
 pub struct Turning {
     pub t0: i64,
     pub t1: i64,
@@ -43,6 +43,7 @@ pub enum InflectionAnswer {
     Refused(Refusal),
 }
 
+// A, where q belongs to a cubic: its upper two coefficients are zero.
 fn cubic_a(q: Quartic) -> i64
     requires { ⌜ Each wholes Small (quartic q) ⌝ }
     ensures { λ r. ⌜ r ≡ cubicA q ⌝ }
@@ -53,6 +54,7 @@ fn cubic_a(q: Quartic) -> i64
     q0 * 6 + q1 * 3 + q2 * 2
 }
 
+// A, where q belongs to a quintic.
 fn quintic_a(q: Quartic) -> i64
     requires { ⌜ Each wholes Small (quartic q) ⌝ }
     ensures { λ r. ⌜ r ≡ quinticA q ⌝ }
@@ -65,6 +67,7 @@ fn quintic_a(q: Quartic) -> i64
     q0 * 60 + q1 * 30 + q2 * 20 + q3 * 15 + q4 * 12
 }
 
+// The length, where N = c q^2.
 fn length_by(curve: Curve, s: Square) -> LengthAnswer
     requires { ⌜ Each wholes Small (quartic (s .q)) ⌝ }
     ensures { λ r. ⌜ r ≡ lengthBy curve s ⌝ }
@@ -93,6 +96,7 @@ pub fn length(curve: Curve) -> LengthAnswer
     }
 }
 
+// The inflections, where D = k w^2.
 fn inflections_by(w: Quadratic) -> InflectionAnswer
     requires { ⌜ AllWithin 2000 (quadratic w) ⌝ }
     ensures { λ r. ⌜ Inflects w r ⌝ }

@@ -28,6 +28,9 @@ module _ (c : tie.After-struct-told3) where
   abbrev turn : ℤ
   turn = middleOf x *ℤ (startOf x +ℤ endOf x)
 
+  abbrev bb : ℤ
+  bb = middleOf x *ℤ middleOf x
+
   sizes : Bounded (8000000 ∷ 16000000 ∷ 8000000 ∷ []) (x .t0 ∷ x .t1 ∷ x .t2 ∷ [])
   sizes = let m = c .before .before .before .pre in m .start ▸ m .middle ▸ m .end ▸ done
 
@@ -65,13 +68,13 @@ not-edge c =
 above : (c : tie.Else3) → pos 0 <ℤ ac (c .before .before .before)
 above c = ⊎-elim (λ h. absurd (not-edge c (omega (linear, not-below (c .before .before))))) (λ h. h) (compare (ac (c .before .before .before)) (pos 0))
 
-deep : (c : tie.Then4) → (ac (c .before .before .before .before) *ℤ pos 4) <ℤ (middleOf (x (c .before .before .before .before)) *ℤ middleOf (x (c .before .before .before .before)))
+deep : (c : tie.Then4) → (ac (c .before .before .before .before) *ℤ pos 4) <ℤ bb (c .before .before .before .before)
 deep c =
     bounds (sizes (c .before .before .before .before))
     (λ ρ e k.
     let t = simp (e 0, e 1, e 2, readℤ, read-pos ρ 2, read-pos ρ 4, kept k) at (c .if4 .taken) in simp (e 0, e 1, e 2, readℤ, read-pos ρ 2, read-pos ρ 4) (omega linear))
 
-flat : (c : tie.Else4) → (middleOf (x (c .before .before .before .before)) *ℤ middleOf (x (c .before .before .before .before))) ≤ℤ (ac (c .before .before .before .before) *ℤ pos 4)
+flat : (c : tie.Else4) → bb (c .before .before .before .before) ≤ℤ (ac (c .before .before .before .before) *ℤ pos 4)
 flat c =
     bounds (sizes (c .before .before .before .before))
     (λ ρ e k.
