@@ -1,5 +1,4 @@
 -- One answer of each promise.
---   told-once           a flag tells one thing
 --   measured-once       what `length` promises
 --   inflected-once      what `inflections` promises
 use mathlib.Core.Path.{_≡_, refl, sym, ap, _∙_, subst}
@@ -25,7 +24,7 @@ use Rattle.measure.specs.Promises.{causes, numberOfLength, valuesOfLengt
 use Rattle.measure.specs.Steps.{lengthBy}
 use Rattle.measure.proofs.Most.{count-once}
 
-pub told-once : (P : Type 0) (a b : Bool) → Tells P a → Tells P b → a ≡ b
+told-once : (P : Type 0) (a b : Bool) → Tells P a → Tells P b → a ≡ b
 told-once P true true h k = refl
 told-once P true false h k = absurd (k h)
 told-once P false true h k = absurd (h k)

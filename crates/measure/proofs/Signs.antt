@@ -1,11 +1,11 @@
 -- Signs of ℤ, said by products of two numbers, so that no proof splits by the sign of one.
---   mixed-times, negative-times           the sign of a product, where one factor or both are below 0
---   positive-cancel, negative-cancel      a factor that is not negative keeps the sign of a product
+--   mixed-times                           a product of a positive number and a negative one
+--   positive-cancel                       a factor that is not negative is taken off a positive product
 --   Like, Unlike                          two numbers have the same sign; opposite signs; so neither is 0
 --   like-flip, unlike-flip, like-like, unlike-unlike, like-unlike      what follows of a and c, from a and b, and b and c
 --   carried                               two numbers with opposite signs give their signs to two others
 --   unlike-some                           where signs are opposite no number is 0
--- Nothing here is of turning polynomials: it could stand beside Order of `whole`.
+-- It belongs beside Order, into `whole`.
 use mathlib.Core.Path.{_≡_, ap, subst}
 use mathlib.Core.List.{[], _∷_}
 use mathlib.Core.Logic.{_≢_, _⊎_, inl, inr}
@@ -27,7 +27,7 @@ positive-cancel {k} {z} h p = by (compare z (pos 0))
         absurd (omega (linear, times-negative k z, negative-parts (k *ℤ z)))
     by (inr l) = l
 
-pub negative-cancel : {k z : ℤ} → pos 0 ≤ℤ k → (k *ℤ z) <ℤ pos 0 → z <ℤ pos 0
+negative-cancel : {k z : ℤ} → pos 0 ≤ℤ k → (k *ℤ z) <ℤ pos 0 → z <ℤ pos 0
 negative-cancel {k} {z} h p =
     let n : pos 0 <ℤ negℤ z = positive-cancel h (omega (linear, times-negative k z, negative-parts (k *ℤ z))) in omega (linear, negative-parts z)
 
@@ -53,7 +53,7 @@ pub mixed-times : {x y : ℤ} → pos 0 <ℤ x → y <ℤ pos 0 → (x *ℤ y) <
 mixed-times {x} {y} h k =
     let n : pos 0 <ℤ (x *ℤ negℤ y) = positive-times h (below-zero y k) in omega (linear, times-negative x y, negative-parts (x *ℤ y))
 
-pub negative-times : {x y : ℤ} → x <ℤ pos 0 → y <ℤ pos 0 → pos 0 <ℤ (x *ℤ y)
+negative-times : {x y : ℤ} → x <ℤ pos 0 → y <ℤ pos 0 → pos 0 <ℤ (x *ℤ y)
 negative-times {x} {y} h k =
     let n : (negℤ y *ℤ x) <ℤ pos 0 = mixed-times (below-zero y k) h in
     omega (linear, times-negative x y, *ℤ-comm x (negℤ y), negative-parts (x *ℤ y))
