@@ -1,0 +1,100 @@
+-- Triples written one behind the other, and the rest of the area cleared.
+--   writes-none        nothing has P, and nothing is written
+--   writes-one         one triple has P, and its numbers stand at the start of the part from the place on
+--   writes-both        what has P, and behind it what has Q
+--   writes-as          where P and Q say the same
+--   fills-rest         what lies behind the numbers is cleared
+--   fills-none         an area that is cleared whole
+use mathlib.Core.Path.{_≡_, refl, sym, ap, ap₂, _∙_, subst}
+use mathlib.Core.List.{List, [], _∷_, _++_, append-assoc, append-nil}
+use mathlib.Core.Logic.{_⊎_}
+use Prim.Native.Nat.{ℕ, _+_, _*_, _-_, _≤_}
+use native.Mathlib.Omega.{arith}
+use lib.IntN.{ℤ, pos}
+use lib.ListN.{length, length-append, length-replicate, take, replicate}
+use lib.Seq.{take-at, drop-length}
+use borrow.Rule.Slice.PartMut.{putMid, midOf, postOf, post-is, mid-len}
+use Rattle.whole.specs.Area.{Cleared, Fills}
+use Rattle.join.specs.Listing.{Triple, Lists, numbers}
+use Rattle.join.specs.Steps.{Begins, Writes}
+use Rattle.join.proofs.Order.{Before, lists-as, lists-none, lists-one, lists-both}
+
+-- ---- the numbers of a list
+pub numbers-length : (ws : List Triple) → length (numbers ws) ≡ 6 * length ws
+unfolding numbers
+numbers-length [] = refl
+numbers-length (w ∷ ws) = omega (arith, numbers-length ws)
+
+numbers-append : (us vs : List Triple) → numbers (us ++ vs) ≡ numbers us ++ numbers vs
+unfolding numbers
+numbers-append [] vs = refl
+numbers-append (u ∷ us) vs = ap (λ (l : List ℤ). u .w0 .re ∷ u .w0 .im ∷ u .w1 .re ∷ u .w1 .im ∷ u .w2 .re ∷ u .w2 .im ∷ l) (numbers-append us vs)
+
+-- ---- what is written
+module _ {n : ℕ} {P : Triple → Type 0} {place : ℕ} {area : List ℤ} where
+  pub writes-none : ((w : Triple) → P w → ⊥) → Writes n P place area area place
+  unfolding numbers
+  writes-none h = record {
+    triples = [];
+    lists = lists-none h;
+    few = omega arith;
+    same-room = refl;
+    next-is = omega arith;
+    begins = λ ns e b. subst (λ (l : List ℤ). Begins l area) (sym (append-nil ns)) b;
+  }
+
+-- the part from the place on comes back as ys
+pub writes-one : {P : Triple → Type 0} (place k : ℕ) (u : Triple) (tail area ys : List ℤ) → P u → ((w : Triple) → P w → w ≡ u)
+    → ys ≡ numbers (u ∷ []) ++ tail → length (putMid place k area ys) ≡ length area → Writes 1 P place area (putMid place k area ys) (place + 6)
+writes-one place k u tail area ys p only e s = record {
+  triples = u ∷ [];
+  lists = lists-one u p only;
+  few = omega arith;
+  same-room = s;
+  next-is = omega arith;
+  begins = λ ns l b. (
+    tail ++ postOf place k area,
+    ap₂ _++_ (ap (take place) (b .1) ∙ take-at ns (b .0) place l)
+        (ap (λ (l : List ℤ). l ++ postOf place k area) e ∙ append-assoc (numbers (u ∷ [])) tail (postOf place k area))
+        ∙ sym (append-assoc ns (numbers (u ∷ [])) (tail ++ postOf place k area)),
+  );
+}
+
+pub writes-both : {P Q : Triple → Type 0} {m n p q r : ℕ} {a b c : List ℤ} → ((u v : Triple) → P u → Q v → Before u v)
+    → Writes m P p a b q → Writes n Q q b c r → Writes (m + n) (λ w. P w ⊎ Q w) p a c r
+writes-both {c} h l k = record {
+  triples = l .triples ++ k .triples;
+  lists = lists-both h (l .lists) (k .lists);
+  few = omega (arith, length-append (l .triples) (k .triples), l .few, k .few);
+  same-room = k .same-room ∙ l .same-room;
+  next-is = omega (arith, l .next-is, k .next-is, length-append (l .triples) (k .triples));
+  begins = λ ns e b.
+      subst (λ (x : List ℤ). Begins x c)
+      (append-assoc ns (numbers (l .triples)) (numbers (k .triples)) ∙ ap (λ (x : List ℤ). ns ++ x) (sym (numbers-append (l .triples) (k .triples))))
+      (k .begins (ns ++ numbers (l .triples)) (omega (arith, length-append ns (numbers (l .triples)), numbers-length (l .triples), l .next-is)) (l .begins ns e b));
+}
+
+pub writes-as : {P Q : Triple → Type 0} {m n place next : ℕ} {before after : List ℤ} → m ≤ n → ((w : Triple) → P w → Q w) → ((w : Triple) → Q w → P w)
+    → Writes m P place before after next → Writes n Q place before after next
+writes-as l f g w = record {
+  triples = w .triples;
+  lists = lists-as f g (w .lists);
+  few = omega (arith, w .few);
+  same-room = w .same-room;
+  next-is = w .next-is;
+  begins = w .begins;
+}
+
+-- ---- the rest
+pub fills-rest : (k : ℕ) (vs area ys : List ℤ) → k ≡ length vs → Begins vs area → Cleared (midOf k (length area - k) area) ys
+    → length (putMid k (length area - k) area ys) ≡ length area → Fills vs (putMid k (length area - k) area ys)
+fills-rest k vs area ys e b f s =
+    let l : k ≤ length area = omega (arith, ap length (b .1), length-append vs (b .0)) in
+    ap₂ _++_ (ap (take k) (b .1) ∙ take-at vs (b .0) k (sym e))
+    (ap (λ (t : List ℤ). ys ++ t) (post-is k (length area) area l ∙ drop-length area) ∙ append-nil ys ∙ f
+    ∙ ap (λ (n : ℕ). replicate n (pos 0)) (mid-len k (length area) area (omega arith) ∙ (λ i. sym s i - e i)))
+
+pub fills-none : (before : List ℤ) {after : List ℤ} → Cleared before after → Fills [] after
+fills-none before {after} e =
+    let n : length before ≡ length after - 0 = omega (arith, ap length e, length-replicate (length before) (pos 0)) in
+    e ∙ ap (λ (n : ℕ). replicate n (pos 0)) n

@@ -1,0 +1,164 @@
+-- `join::put_all` meets its contract: the first and the last root, and the triples for both signs of the last.
+use mathlib.Core.Path.{_≡_, sym, ap, ap₂, _∙_, subst}
+use mathlib.Core.Logic.{_≢_, inl, inr}
+use Prim.Native.Nat.{_+_, _≤_}
+use native.Mathlib.Omega.{arith}
+use borrow.Author.Needs.{needs}
+use lib.IntN.{pos}
+use lib.ListN.{length}
+use Rattle.pair.specs.declared.Pair.{Pair}
+use Rattle.pair.specs.Pairs.{pairs, plus, minus, negative, times, multiple, PartsWithin}
+use Rattle.pair.specs.Roots.{KeptRoot, IsPairRoot}
+use Rattle.pair.proofs.Parts.{wider}
+use Rattle.root.proofs.Quadratics.{plus-within, minus-within}
+use Rattle.join.specs.Listing.{InRange}
+use Rattle.join.specs.Steps.{Sized}
+use Rattle.join.proofs.Centres.{rest, halves-join, join-halves, ends-below}
+use Rattle.join.proofs.Sizes.{root-within, negative-within, rest-within}
+use Rattle.join.proofs.Writing.{writes-none, writes-both, writes-as}
+use Rattle.join.proofs.put_all.Statement.{statement}
+use Rattle.join.proofs.put_all.Tie as tie
+
+root-requires : tie.Need-root-requires
+root-requires c κs = search needs
+
+enum-known-w0 : tie.Need-enum-known-w0
+enum-known-w0 c = search needs
+
+enum-told : tie.Need-enum-told
+enum-told c = search needs
+
+returns : tie.Need-returns
+returns c = writes-none (λ w j. subst (IsPairRoot _) (c .enum-told .given .1) (c .before .before .root .ensures) (w .w0) (j .first))
+
+root-requires-2 : tie.Need-root-requires-2
+root-requires-2 c κs = search needs
+
+enum-known-r : tie.Need-enum-known-r
+enum-known-r c = search needs
+
+enum-told-2 : tie.Need-enum-told-2
+enum-told-2 c = search needs
+
+returns-2 : tie.Need-returns-2
+returns-2 c = writes-none (λ w j. subst (IsPairRoot _) (c .enum-told2 .given .1) (c .before .before .root2 .ensures) (w .w2) (j .last))
+
+-- ---- with both roots
+module _ (c : tie.After-known-told2) where
+  abbrev k : tie.After-known-told
+  k = c .before .before .before .before
+
+  abbrev s : tie.Start
+  s = k .before .before .before .before
+
+  abbrev a : Pair
+  a = s .args .a
+
+  abbrev z : Pair
+  z = s .args .z
+
+  abbrev T : Pair
+  T = s .args .t
+
+  abbrev w0 : Pair
+  w0 = k .before .w0 .given .0 .0
+
+  abbrev r : Pair
+  r = c .before .r .given .0 .0
+
+  first : KeptRoot a w0
+  first = subst (IsPairRoot _) (k .before .w0 .given .1) (k .before .before .before .root .ensures)
+
+  last : KeptRoot z r
+  last = subst (IsPairRoot _) (c .before .r .given .1) (c .before .before .before .root2 .ensures)
+
+  w0-some : w0 ≢ pairs .none
+  w0-some e = s .pre .1 (inl (sym (first .squared) ∙ ap (λ (w : Pair). times w w) e))
+
+  r-some : r ≢ pairs .none
+  r-some e = s .pre .1 (inr (sym (last .squared) ∙ ap (λ (w : Pair). times w w) e))
+
+  w0-within : PartsWithin 200 w0
+  w0-within = root-within 40000 200 a w0 (s .pre .0 .first) (first .squared) (omega arith) (omega arith)
+
+  r-within : PartsWithin 200 r
+  r-within = root-within 40000 200 z r (s .pre .0 .last) (last .squared) (omega arith) (omega arith)
+
+sum-requires : tie.Need-sum-requires
+sum-requires c κs = search needs
+
+difference-requires : tie.Need-difference-requires
+difference-requires c κs =
+    let h = s (c .before) .pre .0 in
+    (rw (c .sum .ensures) (wider (omega arith) (plus-within (h .first) (h .last))), wider (omega arith) (h .travel))
+
+sum-is : (c : tie.After-difference) → c .difference .result ≡ minus (plus (a (c .before .before)) (z (c .before .before))) (T (c .before .before))
+sum-is c = c .difference .ensures ∙ ap (λ (p : Pair). minus p (T (c .before .before))) (c .before .sum .ensures)
+
+multiple-requires : tie.Need-multiple-requires
+multiple-requires c κs =
+    let h = s (c .before .before) .pre .0 in
+    (record { size = omega arith }, rw (sum-is c) (wider (omega arith) (minus-within (plus-within (h .first) (h .last)) (h .travel))))
+
+rest-is : (c : tie.After-multiple) → c .multiple .result ≡ rest (a (c .before .before .before)) (z (c .before .before .before)) (T (c .before .before .before))
+rest-is c = c .multiple .ensures ∙ ap (multiple (pos 3)) (sum-is (c .before))
+
+negative-requires : tie.Need-negative-requires
+negative-requires c κs = wider (omega arith) (r-within (c .before .before .before))
+
+sized : (c : tie.After-multiple) (w2 : Pair) → PartsWithin 200 w2 → Sized (c .multiple .result) (w0 (c .before .before .before)) w2
+sized c w2 h =
+    let t = c .before .before .before in
+    record { rest = rw (rest-is c) (rest-within (a t) (z t) (T t) (s t .pre .0)); first = w0-within t; last = h }
+
+put-half-requires : tie.Need-put-half-requires
+put-half-requires c κs =
+    let m = c .before .before in
+    let t = m .before .before .before in
+    let room : 12 ≤ length (s t .args .area .now) = omega (arith, s t .pre .2) in
+    (rw (c .before .negative .ensures) (sized m _ (negative-within (r-within t))), room)
+
+put-half-requires-2 : tie.Need-put-half-requires-2
+put-half-requires-2 c κs =
+    let m = c .before .before .before .before .before in
+    let t = m .before .before .before in
+    let q = c .before .before .put-half in
+    let room : q .result + 12 ≤ length (q .last .0) = omega (arith, q .ensures .next-is, q .ensures .few, q .ensures .same-room, s t .pre .2) in
+    (sized m _ (r-within t), room)
+
+same-length : tie.Need-same-length
+same-length c = search needs
+
+returns-3 : tie.Need-returns-3
+returns-3 c =
+    let p = c .before in
+    let q = p .before .before .before in
+    let n = q .before .before in
+    let m = n .before in
+    let t = m .before .before .before in
+    writes-as (omega arith)
+    (halves-join (a t) (z t) (T t) (w0 t) (first t .squared) (first t .sign (w0-some t)) (r t) (last t .squared))
+    (join-halves (a t) (z t) (T t) (w0 t) (first t .squared) (first t .sign (w0-some t)) (r t) (last t .squared))
+    (writes-both (λ u v h k. ends-below (r t) (last t .sign (r-some t)) u v (h .last) (k .last))
+    (rw (rest-is m, n .negative .ensures) at (q .put-half .ensures)) (rw (rest-is m) at (p .put-half2 .ensures)))
+
+pub put-all-spec : {M : Type 1} → statement M
+put-all-spec =
+    tie.close
+    (tie.spec
+    root-requires
+    enum-known-w0
+    enum-told
+    returns
+    root-requires-2
+    enum-known-r
+    enum-told-2
+    returns-2
+    sum-requires
+    difference-requires
+    multiple-requires
+    negative-requires
+    put-half-requires
+    put-half-requires-2
+    same-length
+    returns-3)

@@ -1,0 +1,116 @@
+-- The quintics that join a first leg to a last leg over a travel, and what `joins` promises.
+--   Triple                       the pairs w0, w1, w2
+--   travelled, Travels w T       three times the way that w makes; the rule of the middle coefficient: it is three times T
+--   Join a z T w                 w is a curve from leg a to leg z over T, and of w and its negative the one that is kept
+--   Below, key, Sorted           the order: ascending by Re w2, Im w2, Re w1, Im w1
+--   Member, Lists P ws           ws holds every triple with P, nothing else, in the order
+--   AllJoins a z T ws            ws is the list of joins
+--   numbers                      six numbers a triple, w0 first, real before imaginary
+--   InRange, DeadEnd, causes     the causes of refusal, in the call's order
+--   numberOfJoins, countOfJoins  an answer in the table's terms
+--   Answered                     the list's length, and its numbers in the area
+--   Joined                       the promise of `joins`
+use mathlib.Core.Path.{_≡_}
+use mathlib.Core.List.{List, [], _∷_}
+use mathlib.Core.Logic.{_≢_, _⊎_}
+use Prim.Native.Nat.{ℕ, _<_}
+use lib.IntN.{ℤ, pos}
+use lib.ListN.{length}
+use lib.Signed.{_<ℤ_}
+use Rattle.refusal.specs.declared.Refusal.the-variants as R
+use Rattle.refusal.specs.Table.{Cause, First, numberOf}
+use Rattle.whole.specs.Area.{Fills}
+use Rattle.whole.specs.Number.{FirstPositive}
+use Rattle.pair.specs.declared.Pair.{Pair}
+use Rattle.pair.specs.Pairs.{pairs, plus, times, multiple, PartsWithin}
+use Rattle.join.specs.declared.JoinAnswer.{JoinAnswer}
+use Rattle.join.specs.declared.JoinAnswer.the-variants as answers
+
+pub record Triple : Type 0 where
+  pub w0 : Pair
+  pub w1 : Pair
+  pub w2 : Pair
+
+-- 3 w0² + 3 w0 w1 + 2 w1² + w0 w2 + 3 w1 w2 + 3 w2²
+abbrev pub travelled : Triple → Pair
+travelled w =
+    plus (multiple (pos 3) (times (w .w0) (w .w0)))
+    (plus (multiple (pos 3) (times (w .w0) (w .w1)))
+    (plus (multiple (pos 2) (times (w .w1) (w .w1)))
+    (plus (times (w .w0) (w .w2))
+    (plus (multiple (pos 3) (times (w .w1) (w .w2)))
+    (multiple (pos 3) (times (w .w2) (w .w2)))))))
+
+abbrev pub Travels : Triple → Pair → Type 0
+Travels w T = multiple (pos 3) T ≡ travelled w
+
+pub record Join (a z T : Pair) (w : Triple) : Type 0 where
+  pub first : times (w .w0) (w .w0) ≡ a
+  pub last : times (w .w2) (w .w2) ≡ z
+  pub travel : Travels w T
+  pub kept : FirstPositive (w .w0 .re) (w .w0 .im)
+
+abbrev pub key : Triple → List ℤ
+key w = w .w2 .re ∷ w .w2 .im ∷ w .w1 .re ∷ w .w1 .im ∷ []
+
+-- the first number that differs is lower
+abbrev pub Below : List ℤ → List ℤ → Type 0
+Below [] ys = ⊥
+Below (x ∷ xs) [] = ⊥
+Below (x ∷ xs) (y ∷ ys) = (x <ℤ y) ⊎ ((x ≡ y) × Below xs ys)
+
+abbrev pub Sorted : List Triple → Type 0
+Sorted [] = Unit {0}
+Sorted (u ∷ []) = Unit {0}
+Sorted (u ∷ v ∷ ws) = Below (key u) (key v) × Sorted (v ∷ ws)
+
+abbrev pub Member : Triple → List Triple → Type 0
+Member w [] = ⊥
+Member w (u ∷ us) = (w ≡ u) ⊎ Member w us
+
+pub record Lists (P : Triple → Type 0) (ws : List Triple) : Type 0 where
+  pub every : (w : Triple) → P w → Member w ws
+  pub nothing-else : (w : Triple) → Member w ws → P w
+  pub sorted : Sorted ws
+
+abbrev pub AllJoins : Pair → Pair → Pair → List Triple → Type 0
+AllJoins a z T = Lists (Join a z T)
+
+unfoldable pub numbers : List Triple → List ℤ
+numbers [] = []
+numbers (w ∷ ws) = w .w0 .re ∷ w .w0 .im ∷ w .w1 .re ∷ w .w1 .im ∷ w .w2 .re ∷ w .w2 .im ∷ numbers ws
+
+pub record InRange (a z T : Pair) : Type 0 where
+  pub first : PartsWithin 20000 a
+  pub last : PartsWithin 20000 z
+  pub travel : PartsWithin 40000 T
+
+abbrev pub DeadEnd : Pair → Pair → Type 0
+DeadEnd a z = (a ≡ pairs .none) ⊎ (z ≡ pairs .none)
+
+-- room is how many numbers the area holds
+abbrev pub causes : Pair → Pair → Pair → ℕ → List Cause
+causes a z T room =
+    record { refusal = R.Range; holds = InRange a z T → ⊥ } ∷
+    record { refusal = R.DeadEnd; holds = DeadEnd a z } ∷
+    record { refusal = R.Room; holds = room < 24 } ∷ []
+
+abbrev pub numberOfJoins : JoinAnswer → ℕ
+numberOfJoins (answers.Listed n) = 0
+numberOfJoins (answers.Refused r) = numberOf r
+
+abbrev pub countOfJoins : JoinAnswer → ℕ
+countOfJoins (answers.Listed n) = n
+countOfJoins (answers.Refused r) = 0
+
+pub record Answered (a z T : Pair) (count : ℕ) (area : List ℤ) : Type 0 where
+  pub triples : List Triple
+  pub all : AllJoins a z T triples
+  pub counted : count ≡ length triples
+  pub filled : Fills (numbers triples) area
+
+pub record Joined (a z T : Pair) (room : ℕ) (area : List ℤ) (r : JoinAnswer) : Type 0 where
+  pub refusal : First (causes a z T room) (numberOfJoins r)
+  pub same-room : length area ≡ room
+  pub cleared : numberOfJoins r ≢ 0 → Fills [] area
+  pub listed : numberOfJoins r ≡ 0 → Answered a z T (countOfJoins r) area

@@ -1,0 +1,52 @@
+-- What the steps of `joins` promise one another.
+--   triple                    three pairs as one
+--   shift                     3 (w0 + w2)
+--   discriminant m w0 w2      9 (w0 + w2)² − 8 (m + w0 w2), where m is 3 (a + z − T)
+--   Quartered w0 n w2         the triples with these ends for which 4 w1 is n
+--   Half m w0 w2              the triples with these ends for which 4 w1 + 3 (w0 + w2) is a root of the discriminant
+--   Sized                     the sizes that the arithmetic meets
+--   Begins ns area            an area begins with these numbers
+--   Writes n P …              the triples with P, at most n, are written at a place, behind what stood before it
+use mathlib.Core.Path.{_≡_}
+use mathlib.Core.List.{List, _++_}
+use Prim.Native.Nat.{ℕ, _+_, _*_, _≤_}
+use lib.IntN.{ℤ, pos}
+use lib.ListN.{length}
+use Rattle.pair.specs.declared.Pair.{Pair}
+use Rattle.pair.specs.Pairs.{plus, minus, times, multiple, PartsWithin}
+use Rattle.join.specs.Listing.{Triple, Lists, numbers}
+
+abbrev pub triple : Pair → Pair → Pair → Triple
+triple x y z = record { w0 = x; w1 = y; w2 = z }
+
+abbrev pub shift : Pair → Pair → Pair
+shift w0 w2 = multiple (pos 3) (plus w0 w2)
+
+abbrev pub discriminant : Pair → Pair → Pair → Pair
+discriminant m w0 w2 = minus (times (shift w0 w2) (shift w0 w2)) (multiple (pos 8) (plus m (times w0 w2)))
+
+pub record Quartered (w0 n w2 : Pair) (w : Triple) : Type 0 where
+  pub first : w .w0 ≡ w0
+  pub last : w .w2 ≡ w2
+  pub middle : multiple (pos 4) (w .w1) ≡ n
+
+pub record Half (m w0 w2 : Pair) (w : Triple) : Type 0 where
+  pub first : w .w0 ≡ w0
+  pub last : w .w2 ≡ w2
+  pub middle : times (plus (multiple (pos 4) (w .w1)) (shift w0 w2)) (plus (multiple (pos 4) (w .w1)) (shift w0 w2)) ≡ discriminant m w0 w2
+
+pub record Sized (m w0 w2 : Pair) : Type 0 where
+  pub rest : PartsWithin 240000 m
+  pub first : PartsWithin 200 w0
+  pub last : PartsWithin 200 w2
+
+abbrev pub Begins : List ℤ → List ℤ → Type 0
+Begins ns area = (tail : List ℤ) × (area ≡ ns ++ tail)
+
+pub record Writes (n : ℕ) (P : Triple → Type 0) (place : ℕ) (before after : List ℤ) (next : ℕ) : Type 0 where
+  pub triples : List Triple
+  pub lists : Lists P triples
+  pub few : length triples ≤ n
+  pub same-room : length after ≡ length before
+  pub next-is : next ≡ place + 6 * length triples
+  pub begins : (ns : List ℤ) → length ns ≡ place → Begins ns before → Begins (ns ++ numbers triples) after
