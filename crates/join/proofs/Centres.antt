@@ -1,5 +1,6 @@
 -- The middle of a join: with s = 3 (w0 + w2) and m = 3 (a + z − T), the rule of the travel says (4 w1 + s)² = s² − 8 (m + w0 w2).
 --   centre               4 w1 + s
+--   way                  `travelled` as an expression of the solver
 --   to-square, of-square the rule as that square, and back
 --   quartered-once       one triple at most has a quarter for its middle
 --   half-quarters        the triples with these ends are those with a quarter of −(δ + s) or of δ − s, for a root δ of the discriminant
@@ -9,29 +10,23 @@
 --   at-most-four         a list of joins is no longer than four
 use mathlib.Core.Path.{_≡_, refl, sym, ap, _∙_, subst}
 use mathlib.Core.List.{List, [], _∷_}
-use mathlib.Core.Logic.{_≢_, _⊎_, inl, inr, ⊎-elim}
-use Prim.Native.Nat.{ℕ, suc, _≤_}
+use mathlib.Core.Logic.{_⊎_, inl, inr, ⊎-elim}
+use Prim.Native.Nat.{_≤_}
+use native.Mathlib.Omega.{arith}
 use lib.IntN.{ℤ, pos, negℤ, _-ℤ_, _*ℤ_}
 use lib.ListN.{length}
 use lib.Signed.{_<ℤ_}
 use Rattle.whole.specs.Number.{FirstPositive}
-use Rattle.whole.proofs.Wholes.{*ℤ-cancel}
 use Rattle.whole.proofs.Linear.{linear, minus-parts, times-parts, negative-parts}
 use Rattle.pair.specs.declared.Pair.{Pair}
 use Rattle.pair.specs.Pairs.{plus, minus, negative, times, multiple}
-use Rattle.pair.proofs.Parts.{pair-equal}
 use Rattle.pair.proofs.Roots.{square-roots, not-both}
 use Rattle.join.specs.Listing.{Triple, travelled, Travels, Join, Below, AllJoins}
 use Rattle.join.specs.Steps.{triple, shift, discriminant, Quartered, Half}
-use Rattle.join.proofs.PairSolver.{the, _⊞_, _⊟_, _⊠_, _··_, opposite, solve-pairs}
+use Rattle.join.proofs.PairSolver.{Parts, the, _⊞_, _⊟_, _⊠_, _··_, opposite, solve-pairs}
+use Rattle.join.proofs.Pairs.{re-of, im-of, multiple-cancel}
 use Rattle.join.proofs.Order.{triple-equal, Before}
 use Rattle.join.proofs.Few.{sorted-distinct, AtMost, at-most-one, at-most-as, at-most-both, at-most-by}
-
-re-of : {x y : Pair} → x ≡ y → x .re ≡ y .re
-re-of e = ap (λ (p : Pair). p .re) e
-
-im-of : {x y : Pair} → x ≡ y → x .im ≡ y .im
-im-of e = ap (λ (p : Pair). p .im) e
 
 abbrev pub centre : Pair → Pair → Pair → Pair
 centre w0 w1 w2 = plus (multiple (pos 4) w1) (shift w0 w2)
@@ -45,27 +40,24 @@ rest a z T = multiple (pos 3) (minus (plus a z) T)
 abbrev ruled : Pair → Pair → Pair → Pair → Pair → Pair
 ruled a z w0 w2 X = minus (times (shift w0 w2) (shift w0 w2)) (multiple (pos 8) (plus (minus (multiple (pos 3) (plus a z)) X) (times w0 w2)))
 
+-- `travelled`, for the solver
+abbrev pub way : Parts
+way = 3 ·· (the 0 ⊠ the 0) ⊞ (3 ·· (the 0 ⊠ the 1) ⊞ (2 ·· (the 1 ⊠ the 1) ⊞ (the 0 ⊠ the 2 ⊞ (3 ·· (the 1 ⊠ the 2) ⊞ 3 ·· (the 2 ⊠ the 2)))))
+
 centre-square : (w0 w1 w2 : Pair) → times (centre w0 w1 w2) (centre w0 w1 w2) ≡ ruled (times w0 w0) (times w2 w2) w0 w2 (travelled (triple w0 w1 w2))
 centre-square w0 w1 w2 =
     let s = 3 ·· (the 0 ⊞ the 2) in
     let c = 4 ·· the 1 ⊞ s in
-    let T = 3 ·· (the 0 ⊠ the 0) ⊞ (3 ·· (the 0 ⊠ the 1) ⊞ (2 ·· (the 1 ⊠ the 1) ⊞ (the 0 ⊠ the 2 ⊞ (3 ·· (the 1 ⊠ the 2) ⊞ 3 ·· (the 2 ⊠ the 2))))) in
-    solve-pairs (w0 ∷ w1 ∷ w2 ∷ []) (c ⊠ c) (s ⊠ s ⊟ 8 ·· (3 ·· (the 0 ⊠ the 0 ⊞ the 2 ⊠ the 2) ⊟ T ⊞ the 0 ⊠ the 2)) tt tt
+    solve-pairs (w0 ∷ w1 ∷ w2 ∷ []) (c ⊠ c) (s ⊠ s ⊟ 8 ·· (3 ·· (the 0 ⊠ the 0 ⊞ the 2 ⊠ the 2) ⊟ way ⊞ the 0 ⊠ the 2)) tt tt
 
 discriminant-is : (a z T w0 w2 : Pair) → discriminant (rest a z T) w0 w2 ≡ ruled a z w0 w2 (multiple (pos 3) T)
 discriminant-is a z T w0 w2 =
     let s = 3 ·· (the 3 ⊞ the 4) in
     solve-pairs (a ∷ z ∷ T ∷ w0 ∷ w2 ∷ []) (s ⊠ s ⊟ 8 ·· (3 ·· (the 0 ⊞ the 1 ⊟ the 2) ⊞ the 3 ⊠ the 4)) (s ⊠ s ⊟ 8 ·· (3 ·· (the 0 ⊞ the 1) ⊟ 3 ·· the 2 ⊞ the 3 ⊠ the 4)) tt tt
 
-cancel : (n : ℕ) {x y : Pair} → multiple (pos (suc n)) x ≡ multiple (pos (suc n)) y → x ≡ y
-cancel n e = pair-equal (*ℤ-cancel (pos (suc n)) some (re-of e)) (*ℤ-cancel (pos (suc n)) some (im-of e))
-  where
-    some : pos (suc n) ≢ pos 0
-    some z = omega linear
-
 -- X is an eighth of what is left
 ruled-once : (a z w0 w2 X Y : Pair) → ruled a z w0 w2 X ≡ ruled a z w0 w2 Y → X ≡ Y
-ruled-once a z w0 w2 X Y e = cancel 7 (back X ∙ ap (λ (f : Pair). minus f left) e ∙ sym (back Y))
+ruled-once a z w0 w2 X Y e = multiple-cancel 8 (omega arith) (back X ∙ ap (λ (f : Pair). minus f left) e ∙ sym (back Y))
   where
     left : Pair
     left = minus (times (shift w0 w2) (shift w0 w2)) (multiple (pos 8) (plus (multiple (pos 3) (plus a z)) (times w0 w2)))
@@ -95,7 +87,7 @@ is-centre : (x s δ : Pair) → plus x s ≡ δ → x ≡ minus δ s
 is-centre x s δ e = solve-pairs (x ∷ s ∷ []) (the 0) (the 0 ⊞ the 1 ⊟ the 1) tt tt ∙ ap (λ (y : Pair). minus y s) e
 
 pub quartered-once : (w0 n w2 : Pair) (u v : Triple) → Quartered w0 n w2 u → Quartered w0 n w2 v → u ≡ v
-quartered-once w0 n w2 u v h k = triple-equal (h .first ∙ sym (k .first)) (cancel 3 (h .middle ∙ sym (k .middle))) (h .last ∙ sym (k .last))
+quartered-once w0 n w2 u v h k = triple-equal (h .first ∙ sym (k .first)) (multiple-cancel 4 (omega arith) (h .middle ∙ sym (k .middle))) (h .last ∙ sym (k .last))
 
 negative-square : (x : Pair) → times (negative x) (negative x) ≡ times x x
 negative-square x = solve-pairs (x ∷ []) (opposite (the 0) ⊠ opposite (the 0)) (the 0 ⊠ the 0) tt tt

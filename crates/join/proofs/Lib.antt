@@ -1,7 +1,11 @@
+pub mod PairSolver
+pub mod Pairs
 pub mod Order
 pub mod Few
-pub mod PairSolver
 pub mod Centres
-pub mod Writing
 pub mod Sizes
+pub mod Writing
 pub mod Once
+pub mod PowerForms
+pub mod Curves
+pub mod Examples

@@ -1,6 +1,6 @@
 -- Equations of pairs for the solver, by their two parts. It belongs into the crate `pair`.
 --   Parts                              an expression of pairs: the expressions of its two parts
---   the, _⊞_, _⊟_, _⊠_, _×'_, opposite   the i-th pair of the environment, and the algebra of pairs
+--   the, _⊞_, _⊟_, _⊠_, _··_, opposite, nought      the i-th pair of the environment, and the algebra of pairs
 --   solve-pairs                        two expressions of pairs whose parts have equal normal forms are equal
 --   swapped : (a b : Pair) → multiple (pos 3) (times a b) ≡ times b (multiple (pos 3) a)
 --   swapped a b = solve-pairs (a ∷ b ∷ []) (3 ·· (the 0 ⊠ the 1)) (the 1 ⊠ (3 ·· the 0)) tt tt
@@ -39,6 +39,10 @@ n ·· a = record { re = lit n :* a .re; im = lit n :* a .im }
 
 abbrev pub opposite : Parts → Parts
 opposite a = record { re = minus (a .re); im = minus (a .im) }
+
+-- 0
+abbrev pub nought : Parts
+nought = record { re = lit 0; im = lit 0 }
 
 abbrev pub flat : List Pair → List ℤ
 flat [] = []

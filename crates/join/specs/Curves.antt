@@ -4,6 +4,7 @@
 --   tripled w            three times each leg that w makes
 --   Squares w d          the leg polynomial of the legs is the square of the quadratic with Bernstein coefficients w0, w1, w2
 --   Draws a z T w d      besides, the legs go from a to z over the travel T
+--   DrawnOnce a z T ws d one triple of the list draws these legs, and no other does
 use mathlib.Core.Path.{_≡_}
 use mathlib.Core.List.{List, [], _∷_}
 use lib.IntN.{pos}
@@ -11,7 +12,7 @@ use Rattle.whole.specs.Poly.{Same, square}
 use Rattle.pair.specs.declared.Pair.{Pair}
 use Rattle.pair.specs.Pairs.{pairs, plus, times, multiple}
 use Rattle.curve.specs.Curves.{powerForm}
-use Rattle.join.specs.Listing.{Triple}
+use Rattle.join.specs.Listing.{Triple, Member}
 
 pub record Legs : Type 0 where
   pub d0 : Pair
@@ -43,3 +44,9 @@ pub record Draws (a z T : Pair) (w : Triple) (d : Legs) : Type 0 where
   pub last : d .d4 ≡ z
   pub travel : total (legList d) ≡ T
   pub squares : Squares w d
+
+pub record DrawnOnce (a z T : Pair) (ws : List Triple) (d : Legs) : Type 0 where
+  pub triple : Triple
+  pub member : Member triple ws
+  pub draws : Draws a z T triple d
+  pub no-other : (w : Triple) → Member w ws → Draws a z T w d → w ≡ triple

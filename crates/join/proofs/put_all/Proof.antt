@@ -14,7 +14,8 @@ use Rattle.root.proofs.Quadratics.{plus-within, minus-within}
 use Rattle.join.specs.Listing.{InRange}
 use Rattle.join.specs.Steps.{Sized}
 use Rattle.join.proofs.Centres.{rest, halves-join, join-halves, ends-below}
-use Rattle.join.proofs.Sizes.{root-within, negative-within, rest-within}
+use Rattle.join.proofs.Pairs.{root-within, negative-within}
+use Rattle.join.proofs.Sizes.{rest-within}
 use Rattle.join.proofs.Writing.{writes-none, writes-both, writes-as}
 use Rattle.join.proofs.put_all.Statement.{statement}
 use Rattle.join.proofs.put_all.Tie as tie

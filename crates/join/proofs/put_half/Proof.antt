@@ -14,7 +14,8 @@ use Rattle.root.proofs.Quadratics.{plus-within}
 use Rattle.join.specs.Listing.{Triple}
 use Rattle.join.specs.Steps.{shift, discriminant, Sized, Quartered, Half}
 use Rattle.join.proofs.Centres.{centre, quarters-half, half-quarters, quarters-below}
-use Rattle.join.proofs.Sizes.{root-within, negative-within, shift-within, discriminant-within}
+use Rattle.join.proofs.Pairs.{root-within, negative-within}
+use Rattle.join.proofs.Sizes.{shift-within, discriminant-within}
 use Rattle.join.proofs.Writing.{writes-none, writes-both, writes-as}
 use Rattle.join.proofs.put_half.Statement.{statement}
 use Rattle.join.proofs.put_half.Tie as tie

@@ -1,0 +1,86 @@
+-- Power forms of lists of Bernstein coefficients. It belongs into the crate `curve`.
+--   powerForm-multiple      of a multiple it is the multiple
+--   powerForm-once          two lists of one length with the same power form are the same
+use mathlib.Core.Path.{_≡_, refl, sym, ap, ap₂, _∙_}
+use mathlib.Core.List.{List, [], _∷_, map}
+use Prim.Native.Nat.{ℕ, zero, suc, _+_, _-_, _≤_}
+use native.Mathlib.Omega.{arith}
+use lib.IntN.{ℤ, pos, _-ℤ_, _*ℤ_}
+use lib.ListN.{length}
+use Rattle.whole.specs.Poly.{at, Same, choose}
+use Rattle.whole.proofs.Wholes.{atomsℤ, readℤ, ringℤ}
+use Rattle.poly.proofs.Binomials.{choose-positive}
+use Rattle.pair.specs.declared.Pair.{Pair}
+use Rattle.pair.specs.Pairs.{pairs, plus, minus, multiple}
+use Rattle.pair.proofs.Parts.{pair-equal}
+use Rattle.curve.specs.Curves.{differences, powers, powerForm}
+use Rattle.curve.proofs.LegPolynomial.{differences-length}
+use Rattle.join.proofs.PairSolver.{the, _⊞_, _⊟_, solve-pairs}
+use Rattle.join.proofs.Pairs.{multiple-cancel}
+
+-- ---- multiples
+length-map : (f : Pair → Pair) (ds : List Pair) → length (map f ds) ≡ length ds
+length-map f [] = refl
+length-map f (d ∷ ds) = ap suc (length-map f ds)
+
+module _ (c : ℤ) where
+  minus-multiple : (p q : Pair) → minus (multiple c q) (multiple c p) ≡ multiple c (minus q p)
+  minus-multiple p q = pair-equal (part (p .re) (q .re)) (part (p .im) (q .im))
+    where
+      part : (x y : ℤ) → c *ℤ y -ℤ c *ℤ x ≡ c *ℤ (y -ℤ x)
+      part x y = atomsℤ (c ∷ x ∷ y ∷ []) (λ ρ e. simp (e 0, e 1, e 2, readℤ) (ringℤ ρ _ _ tt))
+
+  multiple-multiple : (n : ℤ) (p : Pair) → multiple n (multiple c p) ≡ multiple c (multiple n p)
+  multiple-multiple n p = pair-equal (part (p .re)) (part (p .im))
+    where
+      part : (x : ℤ) → n *ℤ (c *ℤ x) ≡ c *ℤ (n *ℤ x)
+      part x = atomsℤ (c ∷ n ∷ x ∷ []) (λ ρ e. simp (e 0, e 1, e 2, readℤ) (ringℤ ρ _ _ tt))
+
+  differences-multiple : (ds : List Pair) → differences (map (multiple c) ds) ≡ map (multiple c) (differences ds)
+  unfolding differences
+  differences-multiple [] = refl
+  differences-multiple (p ∷ []) = refl
+  differences-multiple (p ∷ q ∷ ds) = ap₂ _∷_ (minus-multiple p q) (differences-multiple (q ∷ ds))
+
+  powers-multiple : (n m k : ℕ) (ds : List Pair) → powers n m k (map (multiple c) ds) ≡ map (multiple c) (powers n m k ds)
+  unfolding powers
+  powers-multiple zero m k ds = refl
+  powers-multiple (suc n) m k [] = refl
+  powers-multiple (suc n) m k (d ∷ ds) =
+      ap₂ _∷_ (multiple-multiple (pos (choose m k)) d) (ap (powers n m (suc k)) (differences-multiple (d ∷ ds)) ∙ powers-multiple n m (suc k) (differences (d ∷ ds)))
+
+  pub powerForm-multiple : (ds : List Pair) → powerForm (map (multiple c) ds) ≡ map (multiple c) (powerForm ds)
+  unfolding powerForm
+  powerForm-multiple ds =
+      ap (λ (n : ℕ). powers n (n - 1) 0 (map (multiple c) ds)) (length-map (multiple c) ds) ∙ powers-multiple (length ds) (length ds - 1) 0 ds
+
+-- ---- the power form decides the list
+minus-once : (p p′ q q′ : Pair) → p ≡ p′ → minus q p ≡ minus q′ p′ → q ≡ q′
+minus-once p p′ q q′ e f = back p q ∙ ap₂ plus f e ∙ sym (back p′ q′)
+  where
+    back : (p q : Pair) → q ≡ plus (minus q p) p
+    back p q = solve-pairs (p ∷ q ∷ []) (the 1) (the 1 ⊟ the 0 ⊞ the 0) tt tt
+
+differences-once : (d e : Pair) (ds es : List Pair) → length ds ≡ length es → d ≡ e → Same pairs (differences (d ∷ ds)) (differences (e ∷ es)) → Same pairs (d ∷ ds) (e ∷ es)
+unfolding differences
+differences-once d e ds es l z h zero = z
+differences-once d e [] [] l z h (suc k) = refl
+differences-once d e [] (q ∷ es) l z h (suc k) = absurd (omega arith)
+differences-once d e (q ∷ ds) [] l z h (suc k) = absurd (omega arith)
+differences-once d e (p ∷ ds) (q ∷ es) l z h (suc k) = differences-once p q ds es (omega arith) (minus-once d e p q z (h zero)) (λ j. h (suc j)) k
+
+powers-once : (n m k : ℕ) (ds es : List Pair) → length ds ≡ n → length es ≡ n → k + n ≤ suc m → Same pairs (powers n m k ds) (powers n m k es) → Same pairs ds es
+unfolding powers
+powers-once zero m k [] [] l l′ b h = λ j. refl
+powers-once zero m k [] (e ∷ es) l l′ b h = absurd (omega arith)
+powers-once zero m k (d ∷ ds) es l l′ b h = absurd (omega arith)
+powers-once (suc n) m k [] es l l′ b h = absurd (omega arith)
+powers-once (suc n) m k (d ∷ ds) [] l l′ b h = absurd (omega arith)
+powers-once (suc n) m k (d ∷ ds) (e ∷ es) l l′ b h =
+    differences-once d e ds es (omega arith) (multiple-cancel (choose m k) (choose-positive m k (omega arith)) (h zero))
+    (powers-once n m (suc k) (differences (d ∷ ds)) (differences (e ∷ es)) (omega (arith, differences-length (d ∷ ds))) (omega (arith, differences-length (e ∷ es))) (omega arith) (λ j. h (suc j)))
+
+pub powerForm-once : (ds es : List Pair) → length ds ≡ length es → Same pairs (powerForm ds) (powerForm es) → Same pairs ds es
+unfolding powerForm
+powerForm-once ds es l h =
+    powers-once (length ds) (length ds - 1) 0 ds es refl (sym l) (omega arith) (λ k. h k ∙ ap (λ (n : ℕ). at pairs (powers n (n - 1) 0 es) k) (sym l))
