@@ -1,13 +1,12 @@
 -- The middle of a join: with s = 3 (w0 + w2) and m = 3 (a + z − T), the rule of the travel says (4 w1 + s)² = s² − 8 (m + w0 w2).
---   centre               4 w1 + s
---   way                  `travelled` as an expression of the solver
---   to-square, of-square the rule as that square, and back
---   quartered-once       one triple at most has a quarter for its middle
---   half-quarters        the triples with these ends are those with a quarter of −(δ + s) or of δ − s, for a root δ of the discriminant
---   quarters-half        and such a triple has these ends
---   quarters-below, ends-below       the order of the two, and of two ends
---   joins-halves, halves-joins       the joins are the triples with −r and with r at their end, for a root r of z
---   at-most-four         a list of joins is no longer than four
+--   rest                             m
+--   way                              `travelled` as an expression of the solver
+--   to-square, of-square             the rule as that square, and back
+--   quartered-once                   one triple at most has a quarter of n for its middle
+--   half-quarters, quarters-half     for a root δ of the discriminant, the middle is a quarter of −δ − s or of δ − s, and the other way
+--   quarters-below, ends-below       the order of these two, and of two last roots
+--   join-halves, halves-join         for a root r of z, the joins are the triples that end in −r or in r
+--   at-most-four                     a list of joins is no longer than four
 use mathlib.Core.Path.{_≡_, refl, sym, ap, _∙_, subst}
 use mathlib.Core.List.{List, [], _∷_}
 use mathlib.Core.Logic.{_⊎_, inl, inr, ⊎-elim}
@@ -20,16 +19,13 @@ use Rattle.whole.specs.Number.{FirstPositive}
 use Rattle.whole.proofs.Linear.{linear, minus-parts, times-parts, negative-parts}
 use Rattle.pair.specs.declared.Pair.{Pair}
 use Rattle.pair.specs.Pairs.{plus, minus, negative, times, multiple}
-use Rattle.pair.proofs.Roots.{square-roots, not-both}
+use Rattle.pair.proofs.Roots.{square-roots}
 use Rattle.join.specs.Listing.{Triple, travelled, Travels, Join, Below, AllJoins}
-use Rattle.join.specs.Steps.{triple, shift, discriminant, Quartered, Half}
+use Rattle.join.specs.Steps.{triple, shift, discriminant, centre, Quartered, Half}
 use Rattle.join.proofs.PairSolver.{Parts, the, _⊞_, _⊟_, _⊠_, _··_, opposite, solve-pairs}
-use Rattle.join.proofs.Pairs.{re-of, im-of, multiple-cancel}
+use Rattle.join.proofs.Pairs.{re-of, im-of, multiple-cancel, kept-roots}
 use Rattle.join.proofs.Order.{triple-equal, Before}
 use Rattle.join.proofs.Few.{sorted-distinct, AtMost, at-most-one, at-most-as, at-most-both, at-most-by}
-
-abbrev pub centre : Pair → Pair → Pair → Pair
-centre w0 w1 w2 = plus (multiple (pos 4) w1) (shift w0 w2)
 
 -- what the ends and the travel leave
 abbrev pub rest : Pair → Pair → Pair → Pair
@@ -151,7 +147,7 @@ ends-below r p u v e f = by p
 -- ---- the joins
 module _ (a z T w0 : Pair) (first : times w0 w0 ≡ a) (kept : FirstPositive (w0 .re) (w0 .im)) where
   same-first : (w : Triple) → Join a z T w → w .w0 ≡ w0
-  same-first w j = ⊎-elim (λ e. e) (λ e. absurd (not-both (w .w0) w0 (j .kept) kept e)) (square-roots (w .w0) w0 (j .first ∙ sym first))
+  same-first w j = kept-roots (w .w0) w0 (j .kept) kept (j .first ∙ sym first)
 
   join-half : (w2 : Pair) → times w2 w2 ≡ z → (w : Triple) → Join a z T w → w .w2 ≡ w2 → Half (rest a z T) w0 w2 w
   join-half w2 last w j e = record {

@@ -1,98 +1,42 @@
 -- The joins as curves: the list holds each quintic from a to z over T whose leg polynomial is the square of a quadratic, once.
---   squares-legs       the leg polynomial is the square of w exactly when three times each leg is what w makes
---   curves-differ      two kept triples with the same legs are equal
---   drawn-once         legs from a to z over T whose leg polynomial is a square are drawn by one triple of the list, and by no other
---   each-draws         every triple of the list draws such legs
-use mathlib.Core.Path.{_≡_, refl, sym, ap, _∙_, subst}
+--   legs-decide         two kept triples with the same legs are equal
+--   some-leg-differs    so two different triples of the list differ in a leg
+--   traced-once         legs from a to z over T whose leg polynomial is a square are those of one triple of the list, and of no other
+--   each-traces         every triple of the list has such legs
+use mathlib.Core.Path.{_≡_, refl, sym, ap, ap₂, _∙_}
 use mathlib.Core.List.{List, [], _∷_, map}
-use mathlib.Core.Logic.{_≢_, _↔_, _⊎_, inl, inr, ⊎-elim}
+use mathlib.Core.Logic.{_≢_, ⊎-elim}
 use Prim.Native.Nat.{ℕ, zero, suc}
 use native.Mathlib.Omega.{arith}
 use lib.IntN.{pos}
-use lib.ListN.{List·getD-map}
-use Rattle.whole.specs.Poly.{at, Same, square, choose}
+use lib.ListN.{length}
+use Rattle.whole.specs.Poly.{at}
 use Rattle.whole.specs.Number.{FirstPositive}
-use Rattle.whole.proofs.Ring.{plus-cancel}
+use Rattle.whole.proofs.Ring.{plus-cancel, zero-difference}
 use Rattle.poly.proofs.Domain.{times-cancel}
 use Rattle.pair.specs.declared.Pair.{Pair}
 use Rattle.pair.specs.Pairs.{pairs, plus, minus, negative, times, multiple}
 use Rattle.pair.proofs.Laws.{pairs-ring, pairs-domain}
-use Rattle.pair.proofs.Roots.{square-roots, not-both}
-use Rattle.root.proofs.Squared.{quadratic-square}
-use Rattle.curve.specs.Curves.{differences, powers, powerForm}
+use Rattle.pair.proofs.Divisors.{pair-zero?}
 use Rattle.curve.proofs.Signs.{first-some, first-found}
-use Rattle.join.specs.Listing.{Triple, travelled, Travels, Join, Member, AllJoins}
-use Rattle.join.specs.Curves.{Legs, legList, total, tripled, Squares, Draws, DrawnOnce}
+use Rattle.join.specs.Listing.{Triple, travelled, Join, Member, AllJoins}
+use Rattle.join.specs.Curves.{QuinticLegs, legList, total, tripled, Traces, TracedOnce}
 use Rattle.join.specs.Steps.{triple}
-use Rattle.join.proofs.PairSolver.{Parts, the, _⊞_, _⊟_, _⊠_, _··_, opposite, nought, solve-pairs}
-use Rattle.join.proofs.Pairs.{multiple-cancel}
+use Rattle.join.proofs.PairSolver.{the, _⊞_, _⊟_, _⊠_, _··_, opposite, nought, solve-pairs}
+use Rattle.join.proofs.Pairs.{multiple-cancel, kept-roots}
 use Rattle.join.proofs.Order.{triple-equal}
 use Rattle.join.proofs.Centres.{way}
-use Rattle.join.proofs.PowerForms.{powerForm-multiple, powerForm-once}
-
--- ---- three times the square of w is the polynomial of the tripled legs
-module _ (w : Triple) where
-  abbrev pairsOf : List Pair
-  pairsOf = w .w0 ∷ w .w1 ∷ w .w2 ∷ []
-
-  abbrev second : Parts → Parts → Parts → Parts
-  second a b c = (c ⊟ b) ⊟ (b ⊟ a)
-
-  abbrev A : Parts
-  A = 1 ·· the 0
-
-  abbrev B : Parts
-  B = 2 ·· (the 1 ⊟ the 0)
-
-  abbrev C : Parts
-  C = 1 ·· second (the 0) (the 1) (the 2)
-
-  abbrev t0 : Parts
-  t0 = 3 ·· (the 0 ⊠ the 0)
-
-  abbrev t1 : Parts
-  t1 = 3 ·· (the 0 ⊠ the 1)
-
-  abbrev t2 : Parts
-  t2 = 2 ·· (the 1 ⊠ the 1) ⊞ the 0 ⊠ the 2
-
-  abbrev t3 : Parts
-  t3 = 3 ·· (the 1 ⊠ the 2)
-
-  abbrev t4 : Parts
-  t4 = 3 ·· (the 2 ⊠ the 2)
-
-  tripled-square : (k : ℕ) → multiple (pos 3) (at pairs (square pairs (powerForm pairsOf)) k) ≡ at pairs (powerForm (tripled w)) k
-  unfolding powerForm powers differences choose
-  tripled-square zero = ap (multiple (pos 3)) (quadratic-square pairs-ring _ _ _ 0) ∙ solve-pairs pairsOf (3 ·· (A ⊠ A)) (1 ·· t0) tt tt
-  tripled-square (suc zero) = ap (multiple (pos 3)) (quadratic-square pairs-ring _ _ _ 1) ∙ solve-pairs pairsOf (3 ·· ((A ⊞ A) ⊠ B)) (4 ·· (t1 ⊟ t0)) tt tt
-  tripled-square (suc (suc zero)) = ap (multiple (pos 3)) (quadratic-square pairs-ring _ _ _ 2) ∙ solve-pairs pairsOf (3 ·· ((A ⊞ A) ⊠ C ⊞ B ⊠ B)) (6 ·· second t0 t1 t2) tt tt
-  tripled-square (suc (suc (suc zero))) = ap (multiple (pos 3)) (quadratic-square pairs-ring _ _ _ 3) ∙ solve-pairs pairsOf (3 ·· ((B ⊞ B) ⊠ C)) (4 ·· (second t1 t2 t3 ⊟ second t0 t1 t2)) tt tt
-  tripled-square (suc (suc (suc (suc zero)))) = ap (multiple (pos 3)) (quadratic-square pairs-ring _ _ _ 4) ∙ solve-pairs pairsOf (3 ·· (C ⊠ C)) (1 ·· second (second t0 t1 t2) (second t1 t2 t3) (second t2 t3 t4)) tt tt
-  tripled-square (suc (suc (suc (suc (suc k))))) = ap (multiple (pos 3)) (quadratic-square pairs-ring _ _ _ (suc (suc (suc (suc (suc k))))))
-
-module _ (w : Triple) (d : Legs) where
-  -- both polynomials three times
-  tripled-legs : (k : ℕ) → at pairs (powerForm (map (multiple (pos 3)) (legList d))) k ≡ multiple (pos 3) (at pairs (powerForm (legList d)) k)
-  tripled-legs k = ap (λ (p : List Pair). at pairs p k) (powerForm-multiple (pos 3) (legList d)) ∙ List·getD-map (multiple (pos 3)) (powerForm (legList d)) k (pairs .none)
-
-  pub squares-legs : Squares w d ↔ (map (multiple (pos 3)) (legList d) ≡ tripled w)
-  squares-legs = (
-    λ h.
-        let e = powerForm-once (map (multiple (pos 3)) (legList d)) (tripled w) refl (λ k. tripled-legs k ∙ ap (multiple (pos 3)) (h k) ∙ tripled-square w k) in
-        λ i. e 0 i ∷ e 1 i ∷ e 2 i ∷ e 3 i ∷ e 4 i ∷ [],
-    λ e k. multiple-cancel 3 (omega arith) (sym (tripled-legs k) ∙ ap (λ (p : List Pair). at pairs (powerForm p) k) e ∙ sym (tripled-square w k)),
-  )
+use Rattle.join.proofs.TripledLegs.{pairsOf, t0, t1, t2, t3, t4, squares-legs}
 
 -- ---- the legs decide a kept triple
-pub curves-differ : (u v : Triple) → FirstPositive (u .w0 .re) (u .w0 .im) → FirstPositive (v .w0 .re) (v .w0 .im) → tripled u ≡ tripled v → u ≡ v
-curves-differ u v h k e = triple-equal e0 e1 e2
+pub legs-decide : (u v : Triple) → FirstPositive (u .w0 .re) (u .w0 .im) → FirstPositive (v .w0 .re) (v .w0 .im) → tripled u ≡ tripled v → u ≡ v
+legs-decide u v h k e = triple-equal e0 e1 e2
   where
     leg : (i : ℕ) → at pairs (tripled u) i ≡ at pairs (tripled v) i
     leg i = ap (λ (l : List Pair). at pairs l i) e
 
     e0 : u .w0 ≡ v .w0
-    e0 = ⊎-elim (λ f. f) (λ f. absurd (not-both (u .w0) (v .w0) h k f)) (square-roots (u .w0) (v .w0) (multiple-cancel 3 (omega arith) (leg 0)))
+    e0 = kept-roots (u .w0) (v .w0) h k (multiple-cancel 3 (omega arith) (leg 0))
 
     -- a product with w0 decides the other factor
     over : (a b : Pair) → times (u .w0) a ≡ times (v .w0) b → a ≡ b
@@ -104,6 +48,24 @@ curves-differ u v h k e = triple-equal e0 e1 e2
     e2 : u .w2 ≡ v .w2
     e2 = over (u .w2) (v .w2) (plus-cancel pairs-ring (multiple (pos 2) (times (u .w1) (u .w1)))
         (leg 2 ∙ ap (λ (x : Pair). plus (multiple (pos 2) (times x x)) (times (v .w0) (v .w2))) (sym e1)))
+
+-- two lists that are not equal differ at a place
+differ : (xs ys : List Pair) → length xs ≡ length ys → xs ≢ ys → (k : ℕ) × (at pairs xs k ≢ at pairs ys k)
+differ [] [] l n = absurd (n refl)
+differ [] (y ∷ ys) l n = absurd (omega arith)
+differ (x ∷ xs) [] l n = absurd (omega arith)
+differ (x ∷ xs) (y ∷ ys) l n = by (pair-zero? (minus x y)) (differ xs ys (omega arith))
+  where
+    by : Dec (minus x y ≡ pairs .none) → (xs ≢ ys → (k : ℕ) × (at pairs xs k ≢ at pairs ys k)) → (k : ℕ) × (at pairs (x ∷ xs) k ≢ at pairs (y ∷ ys) k)
+    by (yes z) f =
+        let e = zero-difference pairs-ring x y z in
+        let (k, h) = f (λ t. n (ap₂ _∷_ e t)) in
+        (suc k, h)
+    by (no z) f = (zero, λ e. z (ap (λ (t : Pair). minus t y) e ∙ pairs-ring .plus-negative y))
+
+pub some-leg-differs : {a z T : Pair} {ws : List Triple} → AllJoins a z T ws → (u v : Triple) → Member u ws → Member v ws → u ≢ v
+    → (k : ℕ) × (at pairs (tripled u) k ≢ at pairs (tripled v) k)
+some-leg-differs all u v m n d = differ (tripled u) (tripled v) refl (λ e. d (legs-decide u v (all .nothing-else u m .kept) (all .nothing-else v n .kept) e))
 
 -- ---- a triple and its negative have the same legs
 opposed : Triple → Triple
@@ -122,8 +84,8 @@ tripled-opposed w =
 -- ---- legs from a to z over T
 module _ (a z T : Pair) where
   -- a kept triple with such legs is a join
-  drawn-join : (w : Triple) (d : Legs) → Draws a z T w d → FirstPositive (w .w0 .re) (w .w0 .im) → Join a z T w
-  drawn-join w d h k = record {
+  traced-join : (w : Triple) (d : QuinticLegs) → Traces a z T w d → FirstPositive (w .w0 .re) (w .w0 .im) → Join a z T w
+  traced-join w d h k = record {
     first = sym (multiple-cancel 3 (omega arith) (leg 0)) ∙ h .first;
     last = sym (multiple-cancel 3 (omega arith) (leg 4)) ∙ h .last;
     travel = ap (multiple (pos 3)) (sym (h .travel)) ∙ spread ∙ ap total legs ∙ gathered;
@@ -144,22 +106,22 @@ module _ (a z T : Pair) where
       gathered = solve-pairs (pairsOf w) (t0 w ⊞ (t1 w ⊞ (t2 w ⊞ (t3 w ⊞ (t4 w ⊞ nought))))) way tt tt
 
   module _ (ws : List Triple) (all : AllJoins a z T ws) where
-    kept-once : (w : Triple) (d : Legs) → Draws a z T w d → FirstPositive (w .w0 .re) (w .w0 .im) → DrawnOnce a z T ws d
+    kept-once : (w : Triple) (d : QuinticLegs) → Traces a z T w d → FirstPositive (w .w0 .re) (w .w0 .im) → TracedOnce a z T ws d
     kept-once w d h k = record {
       triple = w;
-      member = all .every w (drawn-join w d h k);
-      draws = h;
-      no-other = λ v m g. curves-differ v w (all .nothing-else v m .kept) k (sym (squares-legs v d .0 (g .squares)) ∙ squares-legs w d .0 (h .squares));
+      member = all .every w (traced-join w d h k);
+      traces = h;
+      no-other = λ v m g. legs-decide v w (all .nothing-else v m .kept) k (sym (squares-legs v d .0 (g .squares)) ∙ squares-legs w d .0 (h .squares));
     }
 
-    pub drawn-once : a ≢ pairs .none → (u : Triple) (d : Legs) → Draws a z T u d → DrawnOnce a z T ws d
+    pub traced-once : a ≢ pairs .none → (u : Triple) (d : QuinticLegs) → Traces a z T u d → TracedOnce a z T ws d
     unfolding opposed
-    drawn-once some u d h = ⊎-elim (kept-once u d h) (kept-once (opposed u) d other) (first-found (u .w0) u-some)
+    traced-once some u d h = ⊎-elim (kept-once u d h) (kept-once (opposed u) d other) (first-found (u .w0) u-some)
       where
         u-some : u .w0 ≢ pairs .none
         u-some e = some (sym (h .first) ∙ multiple-cancel 3 (omega arith) (ap (λ (l : List Pair). at pairs l 0) (squares-legs u d .0 (h .squares))) ∙ ap (λ (x : Pair). times x x) e)
 
-        other : Draws a z T (opposed u) d
+        other : Traces a z T (opposed u) d
         other = record {
           first = h .first;
           last = h .last;
@@ -168,7 +130,7 @@ module _ (a z T : Pair) where
         }
 
   -- the middle leg is what the travel leaves, and three times it is whole by the rule
-  legsOf : Triple → Legs
+  legsOf : Triple → QuinticLegs
   legsOf w = record {
     d0 = a;
     d1 = times (w .w0) (w .w1);
@@ -177,9 +139,9 @@ module _ (a z T : Pair) where
     d4 = z;
   }
 
-  pub each-draws : (ws : List Triple) → AllJoins a z T ws → (w : Triple) → Member w ws → (d : Legs) × Draws a z T w d
+  pub each-traces : (ws : List Triple) → AllJoins a z T ws → (w : Triple) → Member w ws → (d : QuinticLegs) × Traces a z T w d
   unfolding legsOf
-  each-draws ws all w m = (legsOf w, record { first = refl; last = refl; travel = whole; squares = squares-legs w (legsOf w) .1 legs })
+  each-traces ws all w m = (legsOf w, record { first = refl; last = refl; travel = whole; squares = squares-legs w (legsOf w) .1 legs })
     where
       j : Join a z T w
       j = all .nothing-else w m

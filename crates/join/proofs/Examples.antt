@@ -16,11 +16,11 @@ use Rattle.whole.proofs.Linear.{linear, plus-parts, minus-parts, times-parts}
 use Rattle.pair.specs.declared.Pair.{Pair}
 use Rattle.pair.specs.Pairs.{pair, one, imaginary, negative, minus, times, multiple}
 use Rattle.pair.proofs.Laws.{square-size}
-use Rattle.join.specs.Listing.{Triple, Join, Lists, AllJoins}
-use Rattle.join.specs.Steps.{triple, shift, discriminant, Quartered, Half}
+use Rattle.join.specs.Listing.{Triple, Lists, AllJoins}
+use Rattle.join.specs.Steps.{triple, shift, discriminant, centre, Quartered, Half}
 use Rattle.join.proofs.Pairs.{re-of, im-of}
 use Rattle.join.proofs.Order.{lists-as, lists-none, lists-one, lists-both}
-use Rattle.join.proofs.Centres.{rest, centre, quartered-once, quarters-half, half-quarters, quarters-below, halves-join, join-halves, ends-below}
+use Rattle.join.proofs.Centres.{rest, quartered-once, quarters-half, half-quarters, quarters-below, halves-join, join-halves, ends-below}
 
 positive : {n : ℕ} → pos 0 <ℤ pos (suc n)
 positive = omega linear

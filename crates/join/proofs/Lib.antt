@@ -1,3 +1,4 @@
+-- The theory of joins, from the laws of pairs up to the curves; Once has that `joins` has one answer, and Curves what the list holds.
 pub mod PairSolver
 pub mod Pairs
 pub mod Order
@@ -7,5 +8,6 @@ pub mod Sizes
 pub mod Writing
 pub mod Once
 pub mod PowerForms
+pub mod TripledLegs
 pub mod Curves
 pub mod Examples

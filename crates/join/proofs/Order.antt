@@ -10,7 +10,6 @@ use mathlib.Core.Path.{_≡_, refl, sym, ap₂, _∙_, subst}
 use mathlib.Core.List.{List, [], _∷_, _++_}
 use mathlib.Core.Logic.{_⊎_, inl, inr, ⊎-elim}
 use lib.IntN.{ℤ}
-use lib.Signed.{_<ℤ_}
 use Rattle.whole.proofs.Linear.{linear}
 use Rattle.join.specs.Listing.{Triple, Below, key, Sorted, Member, Lists}
 

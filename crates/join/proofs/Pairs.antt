@@ -1,20 +1,23 @@
 -- Laws of pairs that belong into the crate `pair`.
 --   re-of, im-of         the parts of an equation
 --   multiple-cancel      a multiple by a positive number is cancelled
+--   kept-roots           two roots of one square, both with the sign that is kept, are equal
 --   root-within          the size of a root
 --   negative-within      −a is as small as a
 use mathlib.Core.Path.{_≡_, sym, ap, ap₂, _∙_}
-use mathlib.Core.Logic.{_≢_}
+use mathlib.Core.Logic.{_≢_, ⊎-elim}
 use Prim.Native.Nat.{ℕ, _+_, _*_, _≤_, _<_}
 use native.Mathlib.Nat.{mul-le-mul}
 use native.Mathlib.Omega.{arith}
 use lib.IntN.{pos, natAbs, _*ℤ_}
+use Rattle.whole.specs.Number.{FirstPositive}
 use Rattle.whole.proofs.Integers.{abs-negative}
 use Rattle.whole.proofs.Wholes.{*ℤ-cancel}
 use Rattle.pair.specs.declared.Pair.{Pair}
 use Rattle.pair.specs.Pairs.{negative, times, multiple, norm, PartsWithin}
 use Rattle.pair.proofs.Parts.{pair-equal}
 use Rattle.pair.proofs.Laws.{norm-times, norm-size, root-le}
+use Rattle.pair.proofs.Roots.{square-roots, not-both}
 
 pub re-of : {x y : Pair} → x ≡ y → x .re ≡ y .re
 re-of e = ap (λ (p : Pair). p .re) e
@@ -27,6 +30,9 @@ multiple-cancel n l e = pair-equal (*ℤ-cancel (pos n) some (re-of e)) (*ℤ-ca
   where
     some : pos n ≢ pos 0
     some z = omega (arith, ap natAbs z)
+
+pub kept-roots : (a b : Pair) → FirstPositive (a .re) (a .im) → FirstPositive (b .re) (b .im) → times a a ≡ times b b → a ≡ b
+kept-roots a b h k e = ⊎-elim (λ f. f) (λ f. absurd (not-both a b h k f)) (square-roots a b e)
 
 -- |w|⁴ is the sum of the squares of the parts of w²
 pub root-within : {B : ℕ} (m n : ℕ) (z w : Pair) → PartsWithin B z → times w w ≡ z → B * B + B * B ≤ m * m → m ≤ n * n → PartsWithin n w

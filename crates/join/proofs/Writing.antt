@@ -15,7 +15,7 @@ use lib.ListN.{length, length-append, length-replicate, take, replicate}
 use lib.Seq.{take-at, drop-length}
 use borrow.Rule.Slice.PartMut.{putMid, midOf, postOf, post-is, mid-len}
 use Rattle.whole.specs.Area.{Cleared, Fills}
-use Rattle.join.specs.Listing.{Triple, Lists, numbers}
+use Rattle.join.specs.Listing.{Triple, numbers}
 use Rattle.join.specs.Steps.{Begins, Writes}
 use Rattle.join.proofs.Order.{Before, lists-as, lists-none, lists-one, lists-both}
 

@@ -2,8 +2,9 @@
 --   triple                    three pairs as one
 --   shift                     3 (w0 + w2)
 --   discriminant m w0 w2      9 (w0 + w2)² − 8 (m + w0 w2), where m is 3 (a + z − T)
+--   centre w0 w1 w2           4 w1 + 3 (w0 + w2)
 --   Quartered w0 n w2         the triples with these ends for which 4 w1 is n
---   Half m w0 w2              the triples with these ends for which 4 w1 + 3 (w0 + w2) is a root of the discriminant
+--   Half m w0 w2              the triples with these ends whose centre is a root of the discriminant
 --   Sized                     the sizes that the arithmetic meets
 --   Begins ns area            an area begins with these numbers
 --   Writes n P …              the triples with P, at most n, are written at a place, behind what stood before it
@@ -25,6 +26,9 @@ shift w0 w2 = multiple (pos 3) (plus w0 w2)
 abbrev pub discriminant : Pair → Pair → Pair → Pair
 discriminant m w0 w2 = minus (times (shift w0 w2) (shift w0 w2)) (multiple (pos 8) (plus m (times w0 w2)))
 
+abbrev pub centre : Pair → Pair → Pair → Pair
+centre w0 w1 w2 = plus (multiple (pos 4) w1) (shift w0 w2)
+
 pub record Quartered (w0 n w2 : Pair) (w : Triple) : Type 0 where
   pub first : w .w0 ≡ w0
   pub last : w .w2 ≡ w2
@@ -33,7 +37,7 @@ pub record Quartered (w0 n w2 : Pair) (w : Triple) : Type 0 where
 pub record Half (m w0 w2 : Pair) (w : Triple) : Type 0 where
   pub first : w .w0 ≡ w0
   pub last : w .w2 ≡ w2
-  pub middle : times (plus (multiple (pos 4) (w .w1)) (shift w0 w2)) (plus (multiple (pos 4) (w .w1)) (shift w0 w2)) ≡ discriminant m w0 w2
+  pub middle : times (centre w0 (w .w1) w2) (centre w0 (w .w1) w2) ≡ discriminant m w0 w2
 
 pub record Sized (m w0 w2 : Pair) : Type 0 where
   pub rest : PartsWithin 240000 m

@@ -1,7 +1,6 @@
 // Every curve between two ends: the quintics from one leg to another over a travel, as a list in a lent area.
 ghost use mathlib.Core.Path.{_≡_};
 ghost use mathlib.Core.List.{[], _∷_, _++_};
-ghost use mathlib.Core.Logic.{_≢_};
 ghost use Prim.Native.Nat.{_+_, _≤_};
 ghost use lib.ListN.{length, drop};
 ghost use Rattle.whole.specs.Area.{Cleared};

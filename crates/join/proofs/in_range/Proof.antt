@@ -1,5 +1,4 @@
 -- `join::in_range` meets its contract.
-use native.Mathlib.Omega.{arith}
 use borrow.Author.Needs.{needs}
 use Rattle.curve.proofs.Flags.{told, untold}
 use Rattle.join.proofs.in_range.Statement.{statement}

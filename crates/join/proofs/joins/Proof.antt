@@ -1,8 +1,8 @@
 -- `join::joins` meets its contract.
 use mathlib.Core.Path.{_≡_, refl, sym, ap, _∙_, subst}
 use mathlib.Core.List.{List, []}
-use mathlib.Core.Logic.{_≢_, inl, inr}
-use Prim.Native.Nat.{ℕ, _+_, _*_, _-_, _≤_, _<_}
+use mathlib.Core.Logic.{inl, inr}
+use Prim.Native.Nat.{_-_, _≤_}
 use native.Mathlib.Omega.{arith}
 use borrow.Author.Needs.{needs}
 use lib.IntN.{ℤ, pos}
@@ -83,13 +83,13 @@ returns-3 c =
     let f = i .before in
     let s = f .before .before .before .before in
     shut (s .args .a) (s .args .z) (s .args .t) (s .args .area .now) (c .before .refused3 .last .0) R.Room (c .before .refused3 .result) (c .before .refused3 .ensures)
-    (inr (λ n. n (ranged (f .before .before)), inr (alive f, inl (i .if3 .taken, refl))))
+    (inr (λ n. n (ranged (f .before .before)), inr (alive f, inl (omega (arith, i .if3 .taken), refl))))
 
 put-all-requires : tie.Need-put-all-requires
 put-all-requires c κs =
     let f = c .before .before in
     let s = f .before .before .before .before in
-    let room : 24 ≤ length (s .args .area .now) = c .before .if3 .left in
+    let room : 24 ≤ length (s .args .area .now) = omega (arith, c .before .if3 .left) in
     (ranged (f .before .before), alive f, room)
 
 mul-clear : tie.Need-mul-clear

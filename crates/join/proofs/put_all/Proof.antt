@@ -1,5 +1,5 @@
 -- `join::put_all` meets its contract: the first and the last root, and the triples for both signs of the last.
-use mathlib.Core.Path.{_≡_, sym, ap, ap₂, _∙_, subst}
+use mathlib.Core.Path.{_≡_, sym, ap, _∙_, subst}
 use mathlib.Core.Logic.{_≢_, inl, inr}
 use Prim.Native.Nat.{_+_, _≤_}
 use native.Mathlib.Omega.{arith}
@@ -7,11 +7,10 @@ use borrow.Author.Needs.{needs}
 use lib.IntN.{pos}
 use lib.ListN.{length}
 use Rattle.pair.specs.declared.Pair.{Pair}
-use Rattle.pair.specs.Pairs.{pairs, plus, minus, negative, times, multiple, PartsWithin}
+use Rattle.pair.specs.Pairs.{pairs, plus, minus, times, multiple, PartsWithin}
 use Rattle.pair.specs.Roots.{KeptRoot, IsPairRoot}
 use Rattle.pair.proofs.Parts.{wider}
 use Rattle.root.proofs.Quadratics.{plus-within, minus-within}
-use Rattle.join.specs.Listing.{InRange}
 use Rattle.join.specs.Steps.{Sized}
 use Rattle.join.proofs.Centres.{rest, halves-join, join-halves, ends-below}
 use Rattle.join.proofs.Pairs.{root-within, negative-within}
@@ -112,12 +111,17 @@ sized c w2 h =
     let t = c .before .before .before in
     record { rest = rw (rest-is c) (rest-within (a t) (z t) (T t) (s t .pre .0)); first = w0-within t; last = h }
 
+low-within : (c : tie.After-negative) → PartsWithin 200 (c .negative .result)
+low-within c = rw (c .negative .ensures) (negative-within (r-within (c .before .before .before .before)))
+
 put-half-requires : tie.Need-put-half-requires
 put-half-requires c κs =
     let m = c .before .before in
     let t = m .before .before .before in
     let room : 12 ≤ length (s t .args .area .now) = omega (arith, s t .pre .2) in
-    (rw (c .before .negative .ensures) (sized m _ (negative-within (r-within t))), room)
+    let h = r-within t in
+    let n = low-within (c .before) in
+    (sized m _ (search needs), room)
 
 put-half-requires-2 : tie.Need-put-half-requires-2
 put-half-requires-2 c κs =
@@ -125,7 +129,9 @@ put-half-requires-2 c κs =
     let t = m .before .before .before in
     let q = c .before .before .put-half in
     let room : q .result + 12 ≤ length (q .last .0) = omega (arith, q .ensures .next-is, q .ensures .few, q .ensures .same-room, s t .pre .2) in
-    (sized m _ (r-within t), room)
+    let h = r-within t in
+    let n = low-within (c .before .before .before .before) in
+    (sized m _ (search needs), room)
 
 same-length : tie.Need-same-length
 same-length c = search needs

@@ -1,19 +1,18 @@
 -- `join::put_half` meets its contract: the root of the discriminant, and a quarter for each of its two signs.
-use mathlib.Core.Path.{_≡_, refl, sym, ap, ap₂, _∙_, subst}
-use mathlib.Core.Logic.{_≢_, _⊎_, inl, inr, ⊎-elim}
+use mathlib.Core.Path.{_≡_, sym, ap, ap₂, _∙_, subst}
+use mathlib.Core.Logic.{_⊎_, inl, ⊎-elim}
 use native.Mathlib.Omega.{arith}
 use borrow.Author.Needs.{needs}
 use lib.IntN.{pos}
 use Rattle.whole.specs.Number.{Tells}
 use Rattle.pair.specs.declared.Pair.{Pair}
-use Rattle.pair.specs.declared.PairRoot.the-variants.{Root, None}
-use Rattle.pair.specs.Pairs.{pairs, plus, minus, negative, times, multiple, PartsWithin}
+use Rattle.pair.specs.Pairs.{pairs, minus, negative, multiple, PartsWithin}
 use Rattle.pair.specs.Roots.{KeptRoot, IsPairRoot}
 use Rattle.pair.proofs.Parts.{wider}
 use Rattle.root.proofs.Quadratics.{plus-within}
 use Rattle.join.specs.Listing.{Triple}
-use Rattle.join.specs.Steps.{shift, discriminant, Sized, Quartered, Half}
-use Rattle.join.proofs.Centres.{centre, quarters-half, half-quarters, quarters-below}
+use Rattle.join.specs.Steps.{shift, discriminant, centre, Sized, Quartered}
+use Rattle.join.proofs.Centres.{quarters-half, half-quarters, quarters-below}
 use Rattle.join.proofs.Pairs.{root-within, negative-within}
 use Rattle.join.proofs.Sizes.{shift-within, discriminant-within}
 use Rattle.join.proofs.Writing.{writes-none, writes-both, writes-as}
@@ -87,7 +86,11 @@ negative-requires : tie.Need-negative-requires
 negative-requires c κs = wider (omega arith) (δ-within c)
 
 difference-requires : tie.Need-difference-requires
-difference-requires c κs = (rw (c .negative .ensures) (wider (omega arith) (negative-within (δ-within (c .before)))), wider (omega arith) (s-within (t (c .before))))
+difference-requires c κs =
+    let d = δ-within (c .before) in
+    let n : PartsWithin 3000 (c .negative .result) = rw (c .negative .ensures) (negative-within d) in
+    let s = s-within (t (c .before)) in
+    (search needs, search needs)
 
 low-is : (c : tie.After-difference) → c .difference .result ≡ minus (negative (δ (c .before .before))) (shift (w0 (t (c .before .before))) (w2 (t (c .before .before))))
 low-is c = c .difference .ensures ∙ ap₂ minus (c .before .negative .ensures) (s-is (t (c .before .before)))

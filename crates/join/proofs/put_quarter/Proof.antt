@@ -1,6 +1,5 @@
 -- `join::put_quarter` meets its contract: where 4 divides both parts of n, the part from the place on comes back with the six numbers at its start.
 use mathlib.Core.Path.{_≡_, refl, sym, ap, _∙_, subst}
-use mathlib.Core.List.{[], _∷_}
 use Prim.Native.Nat.{_-_}
 use borrow.Author.Needs.{needs}
 use borrow.Rule.Slice.PartMut.{midOf}
@@ -9,12 +8,12 @@ use lib.ListN.{length, drop}
 use mir.Syntax.{w64}
 use mir.Val.{toZ, ofZ}
 use mir.ValLaws.{toZ-ofZ}
-use Rattle.whole.specs.Quotients.{Divisible, IsQuotient}
+use Rattle.whole.specs.Quotients.{IsQuotient}
 use Rattle.whole.proofs.Linear.{linear}
 use Rattle.pair.specs.declared.Pair.{Pair}
 use Rattle.pair.specs.Pairs.{pair}
 use Rattle.pair.proofs.Parts.{pair-equal}
-use Rattle.join.specs.Listing.{Triple, numbers}
+use Rattle.join.specs.Listing.{Triple}
 use Rattle.join.specs.Steps.{triple, Quartered}
 use Rattle.join.proofs.Centres.{quartered-once}
 use Rattle.join.proofs.Writing.{writes-none, writes-one}
@@ -34,11 +33,8 @@ module _ (c : tie.After-struct-told2) where
   y-is : toZ w64 (ofZ w64 (n .im)) ≡ n .im
   y-is = toZ-ofZ w64 (n .im) (search needs)
 
-by-four : (x : ℤ) → Divisible x (pos 4)
-by-four x = record { nonzero = λ e. omega linear; not-least = λ e f. omega linear }
-
 quotient-requires : tie.Need-quotient-requires
-quotient-requires c κs = by-four _
+quotient-requires c κs = record { nonzero = λ e. omega linear; not-least = λ e f. omega linear }
 
 enum-known-u : tie.Need-enum-known-u
 enum-known-u c = search needs
@@ -53,7 +49,7 @@ returns c =
     (record { factor = w .w1 .re; is = ap (λ (p : Pair). p .re) (h .middle) ∙ sym (x-is t) }))
 
 quotient-requires-2 : tie.Need-quotient-requires-2
-quotient-requires-2 c κs = by-four _
+quotient-requires-2 c κs = record { nonzero = λ e. omega linear; not-least = λ e f. omega linear }
 
 enum-known-v : tie.Need-enum-known-v
 enum-known-v c = search needs
