@@ -79,7 +79,7 @@ tripled-opposed w =
     let b = opposite (the 1) in
     let c = opposite (the 2) in
     λ i.
-    s (3 ·· (a ⊠ a)) (t0 w) tt tt i ∷ s (3 ·· (a ⊠ b)) (t1 w) tt tt i ∷ s (2 ·· (b ⊠ b) ⊞ a ⊠ c) (t2 w) tt tt i ∷ s (3 ·· (b ⊠ c)) (t3 w) tt tt i ∷ s (3 ·· (c ⊠ c)) (t4 w) tt tt i ∷ []
+    s (3 ·· (a ⊠ a)) t0 tt tt i ∷ s (3 ·· (a ⊠ b)) t1 tt tt i ∷ s (2 ·· (b ⊠ b) ⊞ a ⊠ c) t2 tt tt i ∷ s (3 ·· (b ⊠ c)) t3 tt tt i ∷ s (3 ·· (c ⊠ c)) t4 tt tt i ∷ []
 
 -- ---- legs from a to z over T
 module _ (a z T : Pair) where
@@ -103,7 +103,7 @@ module _ (a z T : Pair) where
           (3 ·· the 0 ⊞ (3 ·· the 1 ⊞ (3 ·· the 2 ⊞ (3 ·· the 3 ⊞ (3 ·· the 4 ⊞ nought))))) tt tt
 
       gathered : total (tripled w) ≡ travelled w
-      gathered = solve-pairs (pairsOf w) (t0 w ⊞ (t1 w ⊞ (t2 w ⊞ (t3 w ⊞ (t4 w ⊞ nought))))) way tt tt
+      gathered = solve-pairs (pairsOf w) (t0 ⊞ (t1 ⊞ (t2 ⊞ (t3 ⊞ (t4 ⊞ nought))))) way tt tt
 
   module _ (ws : List Triple) (all : AllJoins a z T ws) where
     kept-once : (w : Triple) (d : QuinticLegs) → Traces a z T w d → FirstPositive (w .w0 .re) (w .w0 .im) → TracedOnce a z T ws d
@@ -159,7 +159,7 @@ module _ (a z T : Pair) where
       middle =
           solve-pairs (a ∷ p ∷ T ∷ q ∷ z ∷ []) (3 ·· (the 2 ⊟ (the 0 ⊞ the 1 ⊞ (the 3 ⊞ the 4)))) (3 ·· the 2 ⊟ 3 ·· (the 0 ⊞ the 1 ⊞ (the 3 ⊞ the 4))) tt tt
           ∙ (λ i. minus (j .travel i) (multiple (pos 3) (plus (plus (sym (j .first) i) p) (plus q (sym (j .last) i)))))
-          ∙ solve-pairs (pairsOf w) (way ⊟ 3 ·· (the 0 ⊠ the 0 ⊞ the 0 ⊠ the 1 ⊞ (the 1 ⊠ the 2 ⊞ the 2 ⊠ the 2))) (t2 w) tt tt
+          ∙ solve-pairs (pairsOf w) (way ⊟ 3 ·· (the 0 ⊠ the 0 ⊞ the 0 ⊠ the 1 ⊞ (the 1 ⊠ the 2 ⊞ the 2 ⊠ the 2))) t2 tt tt
 
       legs : map (multiple (pos 3)) (legList (legsOf w)) ≡ tripled w
       legs = λ i. multiple (pos 3) (sym (j .first) i) ∷ multiple (pos 3) p ∷ middle i ∷ multiple (pos 3) q ∷ multiple (pos 3) (sym (j .last) i) ∷ []

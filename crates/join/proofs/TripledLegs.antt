@@ -22,36 +22,37 @@ use Rattle.join.proofs.PairSolver.{Parts, the, _⊞_, _⊟_, _⊠_, _·
 use Rattle.join.proofs.Pairs.{multiple-cancel}
 use Rattle.join.proofs.PowerForms.{powerForm-multiple, powerForm-once}
 
+-- ---- expressions of the solver, over w0, w1 and w2: the power form of w, and the tripled legs
+abbrev second : Parts → Parts → Parts → Parts
+second a b c = (c ⊟ b) ⊟ (b ⊟ a)
+
+abbrev A : Parts
+A = 1 ·· the 0
+
+abbrev B : Parts
+B = 2 ·· (the 1 ⊟ the 0)
+
+abbrev C : Parts
+C = 1 ·· second (the 0) (the 1) (the 2)
+
+abbrev pub t0 : Parts
+t0 = 3 ·· (the 0 ⊠ the 0)
+
+abbrev pub t1 : Parts
+t1 = 3 ·· (the 0 ⊠ the 1)
+
+abbrev pub t2 : Parts
+t2 = 2 ·· (the 1 ⊠ the 1) ⊞ the 0 ⊠ the 2
+
+abbrev pub t3 : Parts
+t3 = 3 ·· (the 1 ⊠ the 2)
+
+abbrev pub t4 : Parts
+t4 = 3 ·· (the 2 ⊠ the 2)
+
 module _ (w : Triple) where
   abbrev pub pairsOf : List Pair
   pairsOf = w .w0 ∷ w .w1 ∷ w .w2 ∷ []
-
-  abbrev second : Parts → Parts → Parts → Parts
-  second a b c = (c ⊟ b) ⊟ (b ⊟ a)
-
-  abbrev A : Parts
-  A = 1 ·· the 0
-
-  abbrev B : Parts
-  B = 2 ·· (the 1 ⊟ the 0)
-
-  abbrev C : Parts
-  C = 1 ·· second (the 0) (the 1) (the 2)
-
-  abbrev pub t0 : Parts
-  t0 = 3 ·· (the 0 ⊠ the 0)
-
-  abbrev pub t1 : Parts
-  t1 = 3 ·· (the 0 ⊠ the 1)
-
-  abbrev pub t2 : Parts
-  t2 = 2 ·· (the 1 ⊠ the 1) ⊞ the 0 ⊠ the 2
-
-  abbrev pub t3 : Parts
-  t3 = 3 ·· (the 1 ⊠ the 2)
-
-  abbrev pub t4 : Parts
-  t4 = 3 ·· (the 2 ⊠ the 2)
 
   tripled-square : (k : ℕ) → multiple (pos 3) (at pairs (square pairs (powerForm pairsOf)) k) ≡ at pairs (powerForm (tripled w)) k
   unfolding powerForm powers differences choose

@@ -3,6 +3,7 @@
 --   writes-one         one triple has P, and its numbers stand at the start of the part from the place on
 --   writes-both        what has P, and behind it what has Q
 --   writes-as          where P and Q say the same
+--   writes-same        where P and Q are equal
 --   fills-rest         what lies behind the numbers is cleared
 --   fills-none         an area that is cleared whole
 use mathlib.Core.Path.{_≡_, refl, sym, ap, ap₂, _∙_, subst}
@@ -84,6 +85,9 @@ writes-as l f g w = record {
   next-is = w .next-is;
   begins = w .begins;
 }
+
+pub writes-same : {P Q : Triple → Type 0} {n place next : ℕ} {before after : List ℤ} → P ≡ Q → Writes n P place before after next → Writes n Q place before after next
+writes-same {n} {place} {next} {before} {after} e = subst (λ (R : Triple → Type 0). Writes n R place before after next) e
 
 -- ---- the rest
 pub fills-rest : (k : ℕ) (vs area ys : List ℤ) → k ≡ length vs → Begins vs area → Cleared (midOf k (length area - k) area) ys

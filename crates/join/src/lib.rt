@@ -155,5 +155,6 @@ pub fn joins(a: Pair, z: Pair, t: Pair, area: &mut [i64]) -> JoinAnswer
     }
     let k = put_all(area, a, z, t);
     clear(&mut area[k..]);
-    JoinAnswer::Listed((k / 6) as u8)
+    let count = (k / 6) as u8;
+    JoinAnswer::Listed(count)
 }

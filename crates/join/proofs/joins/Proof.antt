@@ -107,8 +107,8 @@ part-clear-end c = search needs
 clear-requires : tie.Need-clear-requires
 clear-requires c κs = search needs
 
-cast-t26 : tie.Need-cast-t26
-cast-t26 c = search needs
+cast-count : tie.Need-cast-count
+cast-count c = search needs
 
 same-length-4 : tie.Need-same-length-4
 same-length-4 c = search needs
@@ -155,6 +155,6 @@ joins-spec =
     part-clear-start
     part-clear-end
     clear-requires
-    cast-t26
+    cast-count
     same-length-4
     returns-4)

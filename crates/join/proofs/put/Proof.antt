@@ -43,7 +43,7 @@ slice-set-from-f : tie.Need-slice-set-from-f
 slice-set-from-f c = search needs
 
 same-length : tie.Need-same-length
-same-length c = length-sets (s c .args .area .now) 0 (six c)
+same-length c = simp length-set
 
 returns : tie.Need-returns
 unfolding numbers

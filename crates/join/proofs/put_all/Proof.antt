@@ -11,11 +11,11 @@ use Rattle.pair.specs.Pairs.{pairs, plus, minus, times, multiple, PartsWithin}
 use Rattle.pair.specs.Roots.{KeptRoot, IsPairRoot}
 use Rattle.pair.proofs.Parts.{wider}
 use Rattle.root.proofs.Quadratics.{plus-within, minus-within}
-use Rattle.join.specs.Steps.{Sized}
+use Rattle.join.specs.Steps.{Half, Sized}
 use Rattle.join.proofs.Centres.{rest, halves-join, join-halves, ends-below}
 use Rattle.join.proofs.Pairs.{root-within, negative-within}
 use Rattle.join.proofs.Sizes.{rest-within}
-use Rattle.join.proofs.Writing.{writes-none, writes-both, writes-as}
+use Rattle.join.proofs.Writing.{writes-none, writes-both, writes-as, writes-same}
 use Rattle.join.proofs.put_all.Statement.{statement}
 use Rattle.join.proofs.put_all.Tie as tie
 
@@ -147,7 +147,7 @@ returns-3 c =
     (halves-join (a t) (z t) (T t) (w0 t) (first t .squared) (first t .sign (w0-some t)) (r t) (last t .squared))
     (join-halves (a t) (z t) (T t) (w0 t) (first t .squared) (first t .sign (w0-some t)) (r t) (last t .squared))
     (writes-both (λ u v h k. ends-below (r t) (last t .sign (r-some t)) u v (h .last) (k .last))
-    (rw (rest-is m, n .negative .ensures) at (q .put-half .ensures)) (rw (rest-is m) at (p .put-half2 .ensures)))
+    (writes-same (λ i. Half (rest-is m i) (w0 t) (n .negative .ensures i)) (q .put-half .ensures)) (writes-same (λ i. Half (rest-is m i) (w0 t) (r t)) (p .put-half2 .ensures)))
 
 pub put-all-spec : {M : Type 1} → statement M
 put-all-spec =
