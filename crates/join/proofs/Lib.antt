@@ -1,6 +1,7 @@
--- The theory of joins, from the laws of pairs up to the curves; Once has that `joins` has one answer, and Curves what the list holds.
+-- The theory of joins, from the laws of pairs and areas up to the curves; Once has that `joins` has one answer, and Curves what the list holds.
 pub mod PairSolver
 pub mod Pairs
+pub mod Areas
 pub mod Order
 pub mod Few
 pub mod Centres

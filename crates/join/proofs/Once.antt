@@ -1,23 +1,20 @@
 -- The promise of `joins` has one answer, in the result and in the area.
 --   joined-once      two answers and areas that keep it are equal
 use mathlib.Core.Path.{_≡_, refl, sym, ap, _∙_}
-use mathlib.Core.List.{List, [], _++_}
-use Prim.Native.Nat.{ℕ, _-_}
+use mathlib.Core.List.{List, []}
+use Prim.Native.Nat.{ℕ}
 use native.Mathlib.Omega.{arith}
-use lib.IntN.{ℤ, pos}
-use lib.ListN.{length, replicate}
+use lib.IntN.{ℤ}
+use lib.ListN.{length}
 use Rattle.refusal.specs.declared.Refusal.{Refusal}
 use Rattle.refusal.specs.Table.{numberOf}
 use Rattle.refusal.proofs.Laws.{number-positive, number-once, first-once}
-use Rattle.whole.specs.Area.{Fills}
 use Rattle.pair.specs.declared.Pair.{Pair}
 use Rattle.join.specs.declared.JoinAnswer.{JoinAnswer}
 use Rattle.join.specs.declared.JoinAnswer.the-variants as answers
 use Rattle.join.specs.Listing.{Joined, causes, numbers, numberOfJoins}
+use Rattle.join.proofs.Areas.{fills-once}
 use Rattle.join.proofs.Order.{lists-once}
-
-fills-once : (vs us : List ℤ) {x y : List ℤ} → vs ≡ us → length x ≡ length y → Fills vs x → Fills us y → x ≡ y
-fills-once vs us e l f g = f ∙ (λ i. e i ++ replicate (l i - length (e i)) (pos 0)) ∙ sym g
 
 not-zero : (r : Refusal) → numberOf r ≡ 0 → ⊥
 not-zero r z = omega (arith, number-positive r)

@@ -6,7 +6,7 @@ use mathlib.Core.List.{List, [], _∷_, map}
 use Prim.Native.Nat.{ℕ, zero, suc, _+_, _-_, _≤_}
 use native.Mathlib.Omega.{arith}
 use lib.IntN.{ℤ, pos, _-ℤ_, _*ℤ_}
-use lib.ListN.{length}
+use lib.ListN.{length, length-map}
 use Rattle.whole.specs.Poly.{at, Same, choose}
 use Rattle.whole.proofs.Wholes.{atomsℤ, readℤ, ringℤ}
 use Rattle.poly.proofs.Binomials.{choose-positive}
@@ -19,10 +19,6 @@ use Rattle.join.proofs.PairSolver.{the, _⊞_, _⊟_, solve-pairs}
 use Rattle.join.proofs.Pairs.{multiple-cancel}
 
 -- ---- multiples
-length-map : (f : Pair → Pair) (ds : List Pair) → length (map f ds) ≡ length ds
-length-map f [] = refl
-length-map f (d ∷ ds) = ap suc (length-map f ds)
-
 module _ (c : ℤ) where
   minus-multiple : (p q : Pair) → minus (multiple c q) (multiple c p) ≡ multiple c (minus q p)
   minus-multiple p q = pair-equal (part (p .re) (q .re)) (part (p .im) (q .im))
@@ -52,7 +48,7 @@ module _ (c : ℤ) where
   pub powerForm-multiple : (ds : List Pair) → powerForm (map (multiple c) ds) ≡ map (multiple c) (powerForm ds)
   unfolding powerForm
   powerForm-multiple ds =
-      ap (λ (n : ℕ). powers n (n - 1) 0 (map (multiple c) ds)) (length-map (multiple c) ds) ∙ powers-multiple (length ds) (length ds - 1) 0 ds
+      ap (λ (n : ℕ). powers n (n - 1) 0 (map (multiple c) ds)) (length-map ds (multiple c)) ∙ powers-multiple (length ds) (length ds - 1) 0 ds
 
 -- ---- the power form decides the list
 minus-once : (p p′ q q′ : Pair) → p ≡ p′ → minus q p ≡ minus q′ p′ → q ≡ q′

@@ -1,21 +1,18 @@
--- Triples written one behind the other, and the rest of the area cleared.
+-- Triples written one behind the other.
 --   writes-none        nothing has P, and nothing is written
 --   writes-one         one triple has P, and its numbers stand at the start of the part from the place on
 --   writes-both        what has P, and behind it what has Q
 --   writes-as          where P and Q say the same
 --   writes-same        where P and Q are equal
---   fills-rest         what lies behind the numbers is cleared
---   fills-none         an area that is cleared whole
 use mathlib.Core.Path.{_≡_, refl, sym, ap, ap₂, _∙_, subst}
 use mathlib.Core.List.{List, [], _∷_, _++_, append-assoc, append-nil}
 use mathlib.Core.Logic.{_⊎_}
-use Prim.Native.Nat.{ℕ, _+_, _*_, _-_, _≤_}
+use Prim.Native.Nat.{ℕ, _+_, _*_, _≤_}
 use native.Mathlib.Omega.{arith}
-use lib.IntN.{ℤ, pos}
-use lib.ListN.{length, length-append, length-replicate, take, replicate}
-use lib.Seq.{take-at, drop-length}
-use borrow.Rule.Slice.PartMut.{putMid, midOf, postOf, post-is, mid-len}
-use Rattle.whole.specs.Area.{Cleared, Fills}
+use lib.IntN.{ℤ}
+use lib.ListN.{length, length-append, take}
+use lib.Seq.{take-at}
+use borrow.Rule.Slice.PartMut.{putMid, postOf}
 use Rattle.join.specs.Listing.{Triple, numbers}
 use Rattle.join.specs.Steps.{Begins, Writes}
 use Rattle.join.proofs.Order.{Before, lists-as, lists-none, lists-one, lists-both}
@@ -88,17 +85,3 @@ writes-as l f g w = record {
 
 pub writes-same : {P Q : Triple → Type 0} {n place next : ℕ} {before after : List ℤ} → P ≡ Q → Writes n P place before after next → Writes n Q place before after next
 writes-same {n} {place} {next} {before} {after} e = subst (λ (R : Triple → Type 0). Writes n R place before after next) e
-
--- ---- the rest
-pub fills-rest : (k : ℕ) (vs area ys : List ℤ) → k ≡ length vs → Begins vs area → Cleared (midOf k (length area - k) area) ys
-    → length (putMid k (length area - k) area ys) ≡ length area → Fills vs (putMid k (length area - k) area ys)
-fills-rest k vs area ys e b f s =
-    let l : k ≤ length area = omega (arith, ap length (b .1), length-append vs (b .0)) in
-    ap₂ _++_ (ap (take k) (b .1) ∙ take-at vs (b .0) k (sym e))
-    (ap (λ (t : List ℤ). ys ++ t) (post-is k (length area) area l ∙ drop-length area) ∙ append-nil ys ∙ f
-    ∙ ap (λ (n : ℕ). replicate n (pos 0)) (mid-len k (length area) area (omega arith) ∙ (λ i. sym s i - e i)))
-
-pub fills-none : (before : List ℤ) {after : List ℤ} → Cleared before after → Fills [] after
-fills-none before {after} e =
-    let n : length before ≡ length after - 0 = omega (arith, ap length e, length-replicate (length before) (pos 0)) in
-    e ∙ ap (λ (n : ℕ). replicate n (pos 0)) n

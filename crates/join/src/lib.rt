@@ -23,6 +23,7 @@ use whole::Exact;
 use whole::clear;
 use whole::quotient;
 
+// How many triples the area holds, or why there is no list.
 pub enum JoinAnswer {
     Listed(u8),
     Refused(Refusal),
@@ -133,6 +134,7 @@ fn put_all(area: &mut [i64], a: Pair, z: Pair, t: Pair) -> usize
     put_half(area, next, m, w0, r)
 }
 
+// After a refusal the area is all zero.
 fn refused(area: &mut [i64], r: Refusal) -> JoinAnswer
     ensures { λ s. ⌜ Cleared (now (area .entry)) (now (area .exit)) × (s ≡ answers.Refused r) ⌝ }
 {

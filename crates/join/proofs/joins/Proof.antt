@@ -2,7 +2,7 @@
 use mathlib.Core.Path.{_≡_, refl, sym, ap, _∙_, subst}
 use mathlib.Core.List.{List, []}
 use mathlib.Core.Logic.{inl, inr}
-use Prim.Native.Nat.{_-_, _≤_}
+use Prim.Native.Nat.{_≤_}
 use native.Mathlib.Omega.{arith}
 use borrow.Author.Needs.{needs}
 use lib.IntN.{ℤ, pos}
@@ -18,7 +18,8 @@ use Rattle.pair.specs.declared.Pair.{Pair}
 use Rattle.join.specs.declared.JoinAnswer.{JoinAnswer}
 use Rattle.join.specs.declared.JoinAnswer.the-variants as answers
 use Rattle.join.specs.Listing.{InRange, DeadEnd, Joined, causes, numbers}
-use Rattle.join.proofs.Writing.{numbers-length, fills-rest, fills-none}
+use Rattle.join.proofs.Areas.{fills-rest, fills-none}
+use Rattle.join.proofs.Writing.{numbers-length}
 use Rattle.join.proofs.joins.Statement.{statement}
 use Rattle.join.proofs.joins.Tie as tie
 
@@ -122,6 +123,7 @@ returns-4 c =
     let w = p .put-all .ensures in
     let k = p .put-all .result in
     let behind : k ≡ length (numbers (w .triples)) = omega (arith, w .next-is, numbers-length (w .triples)) in
+    let start = w .begins [] refl (s .args .area .now, refl) in
     record {
       refusal = inr (λ n. n (ranged (f .before .before)), inr (alive f, inr (λ h. let l : 24 ≤ length (s .args .area .now) = e .if3 .left in omega (arith, h), refl)));
       same-room = c .area5 .given .1 ∙ w .same-room;
@@ -130,7 +132,7 @@ returns-4 c =
         triples = w .triples;
         all = w .lists;
         counted = omega (arith, w .next-is);
-        filled = fills-rest k (numbers (w .triples)) (p .put-all .last .0) (c .before .clear .last .0) behind (w .begins [] refl (s .args .area .now, refl)) (c .before .clear .ensures) (c .area5 .given .1);
+        filled = fills-rest k (numbers (w .triples)) (start .0) (p .put-all .last .0) (c .before .clear .last .0) behind (start .1) (c .before .clear .ensures) (c .area5 .given .1);
       };
     }
 
