@@ -58,7 +58,7 @@ pub(crate) fn content(n: Nine) -> i64
 }
 
 // n / c, which is whole.
-fn share(n: i64, c: i64) -> i64
+pub fn share(n: i64, c: i64) -> i64
     requires { ⌜ Shares n c ⌝ }
     ensures { λ r. ⌜ (c *ℤ r ≡ n) × Within 10000000000000 r ⌝ }
 {

@@ -90,7 +90,8 @@ fn quintic_legs(c: Quintic) -> Legs
     Legs { re, im }
 }
 
-pub(crate) fn drawn(curve: Curve) -> Legs
+// D.
+pub fn drawn(curve: Curve) -> Legs
     requires { ⌜ InRange (pointsOf curve) ⌝ }
     ensures { λ d. ⌜ Draws d (pointsOf curve) ⌝ }
 {

@@ -6,9 +6,10 @@ mod ranges;
 
 use contents::content;
 use contents::divided;
+pub use contents::share;
 use contents::squared_length;
 use drawing::degree;
-use drawing::drawn;
+pub use drawing::drawn;
 use drawing::to_pairs;
 use pair::Pair;
 use preimages::generator;

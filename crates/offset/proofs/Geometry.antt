@@ -1,0 +1,159 @@
+-- What the offset of a curve is, as identities of polynomials, where N = c q² and c = m².
+--   offset-squared       W² = N
+--   offset-along         X − W x = h Im D and Y − W y = −h Re D: the offset lies along the normal,
+--   offset-distance      and |h| away: (X − W x)² + (Y − W y)² = h² N
+--   offset-blended       the numbers are the Bernstein coefficients of W, X and Y, times the scale
+use mathlib.Core.Path.{_≡_, refl, sym, ap, ap₂, _∙_}
+use mathlib.Core.List.{List, [], _∷_, map}
+use Prim.Native.Nat.{ℕ, zero, suc, _+_, _*_, _-_, _≤_}
+use native.Mathlib.Omega.{arith}
+use lib.IntN.{ℤ, pos, negsuc, negℤ, natAbs, _+ℤ_, _*ℤ_, *ℤ-zero}
+use lib.ListN.{length}
+use Rattle.whole.specs.Poly.{at, Same, sum, scaled, product, square, choose}
+use Rattle.whole.specs.Number.{wholes}
+use Rattle.whole.proofs.Wholes.{wholes-ring, atomsℤ, readℤ, read-negsuc, ringℤ, *ℤ-cancel}
+use Rattle.poly.specs.Terms.{Above}
+use Rattle.poly.proofs.Lists.{at-sum, at-scaled, sum-comm, sum-same, square-same, scaled-sum, square-scaled}
+use Rattle.poly.proofs.Forms.{form}
+use Rattle.poly.proofs.Top.{product-above, scaled-above}
+use Rattle.pair.specs.declared.Pair.{Pair}
+use Rattle.pair.specs.Pairs.{pairs, multiple}
+use Rattle.pair.proofs.Parts.{pair-equal}
+use Rattle.root.specs.Roots.{quartic}
+use Rattle.curve.specs.declared.Curve.{Curve}
+use Rattle.curve.specs.declared.Curve.the-variants.{Cubic, Quintic}
+use Rattle.curve.specs.Curves.{pointsOf, powerForm, legPolynomial, reals, imaginaries, squaredLength}
+use Rattle.curve.proofs.LegPolynomial.{Part, re-part, im-part, legPolynomial-above}
+use Rattle.curve.proofs.Lengths.{squared-above}
+use Rattle.offset.specs.Offsets.{bernstein, Rational, offsetCurve, degreeOf, scaleOf, OffsetIn}
+use Rattle.offset.proofs.Derivative.{derivative}
+use Rattle.offset.proofs.Paths.{at-part}
+use Rattle.offset.proofs.Bernstein.{bernstein-value, whole-weights}
+
+-- p − q
+abbrev pub difference : List ℤ → List ℤ → List ℤ
+difference p q = sum wholes p (scaled wholes (negsuc 0) q)
+
+left-over : (p q : List ℤ) → Same wholes (difference (sum wholes p q) p) q
+left-over p q k =
+    at-sum wholes-ring (sum wholes p q) (scaled wholes (negsuc 0) p) k
+    ∙ ap₂ _+ℤ_ (at-sum wholes-ring p q k) (at-scaled wholes-ring (negsuc 0) p k)
+    ∙ gone (at wholes p k) (at wholes q k)
+  where
+    gone : (a b : ℤ) → (a +ℤ b) +ℤ negsuc 0 *ℤ a ≡ b
+    gone a b = atomsℤ (a ∷ b ∷ []) (λ ρ e. simp (e 0, e 1, readℤ, read-negsuc ρ) (ringℤ ρ _ _ tt))
+
+module _ (ps : List Pair) (W : List ℤ) (h : ℤ) where
+  abbrev o : Rational
+  o = offsetCurve ps W h
+
+  abbrev D : List Pair
+  D = legPolynomial ps
+
+  -- ---- from the curve's point to the offset's, times W
+  abbrev pub across : List ℤ
+  across = difference (o .x) (product wholes W (reals (powerForm ps)))
+
+  abbrev pub upward : List ℤ
+  upward = difference (o .y) (product wholes W (imaginaries (powerForm ps)))
+
+  pub offset-along : Same wholes across (scaled wholes h (imaginaries D)) × Same wholes upward (scaled wholes (negℤ h) (reals D))
+  offset-along = (
+    left-over (product wholes W (reals (powerForm ps))) (scaled wholes h (imaginaries D)),
+    left-over (product wholes W (imaginaries (powerForm ps))) (scaled wholes (negℤ h) (reals D)),
+  )
+
+  negative-square : (h : ℤ) → negℤ h *ℤ negℤ h ≡ h *ℤ h
+  negative-square h = atomsℤ (h ∷ []) (λ ρ e. simp (e 0, readℤ) (ringℤ ρ _ _ tt))
+
+  pub offset-distance : Same wholes (sum wholes (square wholes across) (square wholes upward)) (scaled wholes (h *ℤ h) (squaredLength D))
+  unfolding squaredLength
+  offset-distance k =
+      sum-same wholes-ring (square wholes across) (scaled wholes (h *ℤ h) (square wholes (imaginaries D))) (square wholes upward) (scaled wholes (h *ℤ h) (square wholes (reals D))) across-is upward-is k
+      ∙ sum-comm wholes-ring (scaled wholes (h *ℤ h) (square wholes (imaginaries D))) (scaled wholes (h *ℤ h) (square wholes (reals D))) k
+      ∙ sym (scaled-sum wholes-ring (h *ℤ h) (square wholes (reals D)) (square wholes (imaginaries D)) k)
+    where
+      across-is : Same wholes (square wholes across) (scaled wholes (h *ℤ h) (square wholes (imaginaries D)))
+      across-is j = square-same wholes-ring across (scaled wholes h (imaginaries D)) (offset-along .0) j ∙ square-scaled wholes-ring h (imaginaries D) j
+
+      upward-is : Same wholes (square wholes upward) (scaled wholes (h *ℤ h) (square wholes (reals D)))
+      upward-is j =
+          square-same wholes-ring upward (scaled wholes (negℤ h) (reals D)) (offset-along .1) j
+          ∙ square-scaled wholes-ring (negℤ h) (reals D) j
+          ∙ ap (λ n. at wholes (scaled wholes n (square wholes (reals D))) j) (negative-square h)
+
+-- ---- an offset
+two-points : (curve : Curve) → 2 ≤ length (pointsOf curve)
+two-points (Cubic c) = omega arith
+two-points (Quintic c) = omega arith
+
+degree : (curve : Curve) → length (pointsOf curve) - 2 + (length (pointsOf curve) - 1) ≡ degreeOf curve
+degree (Cubic c) = refl
+degree (Quintic c) = refl
+
+module _ (curve : Curve) (h : ℤ) (area : List ℤ) (i : OffsetIn curve h area) where
+  abbrev points : List Pair
+  points = pointsOf curve
+
+  abbrev q : List ℤ
+  q = quartic (i .preimage .square .q)
+
+  abbrev weight : List ℤ
+  weight = scaled wholes (pos (i .m)) q
+
+  pub offset-squared : Same wholes (square wholes weight) (squaredLength (legPolynomial points))
+  offset-squared k =
+      square-scaled wholes-ring (pos (i .m)) q k
+      ∙ ap (λ c. at wholes (scaled wholes c (square wholes q)) k) (sym (i .root))
+      ∙ sym (i .is-preimage .square-of .squared k)
+
+  -- ---- degrees
+  part-above : {part : Pair → ℤ} → Part part → (L : List Pair) (n : ℕ) → Above pairs (at pairs L) n → Above wholes (at wholes (map part L)) n
+  part-above {part} P L n u k l = at-part P L k ∙ ap part (u k l) ∙ P .of-none
+
+  powerForm-above : Above pairs (at pairs (powerForm points)) (length points - 1)
+  powerForm-above zero l = absurd (omega arith)
+  powerForm-above (suc k) l = pair-equal (part re-part) (part im-part)
+    where
+      none : at pairs (legPolynomial points) k ≡ pairs .none
+      none = legPolynomial-above points k (omega (arith, two-points curve))
+
+      part : {part : Pair → ℤ} → Part part → part (at pairs (powerForm points) (suc k)) ≡ pos 0
+      part {part} P =
+          *ℤ-cancel (pos (suc k)) (λ z. let n : suc k ≡ 0 = ap natAbs z in omega arith)
+          (sym (P .of-multiple (pos (suc k)) (at pairs (powerForm points) (suc k)))
+          ∙ ap part (derivative points k ∙ ap (multiple (pos (length points - 1))) none)
+          ∙ P .of-multiple (pos (length points - 1)) (pairs .none)
+          ∙ ap (λ z. pos (length points - 1) *ℤ z) (P .of-none)
+          ∙ *ℤ-zero (pos (length points - 1))
+          ∙ sym (*ℤ-zero (pos (suc k))))
+
+  weight-above : Above wholes (at wholes weight) (length points - 2)
+  weight-above =
+      scaled-above wholes-ring (pos (i .m)) q (length points - 2)
+      (squared-above (legPolynomial points) (length points - 2) (i .preimage .square .c) q (legPolynomial-above points) (i .is-preimage .square-of .positive) (i .is-preimage .square-of .squared))
+
+  -- W times a part of r, and h times a part of D
+  row-above : {part part′ : Pair → ℤ} → Part part → Part part′ → (h : ℤ)
+      → Above wholes (at wholes (sum wholes (product wholes weight (map part (powerForm points))) (scaled wholes h (map part′ (legPolynomial points))))) (degreeOf curve)
+  row-above {part} {part′} P P′ h k l =
+      at-sum wholes-ring (product wholes weight (map part (powerForm points))) (scaled wholes h (map part′ (legPolynomial points))) k
+      ∙ ap₂ _+ℤ_
+      (product-above wholes-ring weight (map part (powerForm points)) (length points - 2) (length points - 1) weight-above (part-above P (powerForm points) (length points - 1) powerForm-above) k (omega (arith, degree curve)))
+      (scaled-above wholes-ring h (map part′ (legPolynomial points)) (length points - 2) (part-above P′ (legPolynomial points) (length points - 2) (legPolynomial-above points)) k (omega (arith, degree curve)))
+
+  -- ---- Bernstein coefficients
+  abbrev pub Blended : List ℤ → Type 0
+  Blended a =
+      (u v : ℤ) → form wholes u v (degreeOf curve) (λ k. pos (choose (degreeOf curve) k) *ℤ bernstein (degreeOf curve) (scaleOf curve) a k)
+      ≡ pos (scaleOf curve) *ℤ form wholes (u +ℤ v) v (degreeOf curve) (at wholes a)
+
+  blended : (a : List ℤ) → Above wholes (at wholes a) (degreeOf curve) → Blended a
+  blended a u = bernstein-value (degreeOf curve) (scaleOf curve) (whole-weights curve) a u
+
+  pub offset-blended : let o = offsetCurve points weight h in Blended (o .w) × Blended (o .x) × Blended (o .y)
+  offset-blended = (
+    blended weight (λ k l. weight-above k (omega (arith, degree curve))),
+    blended (offsetCurve points weight h .x) (row-above re-part im-part h),
+    blended (offsetCurve points weight h .y) (row-above im-part re-part (negℤ h)),
+  )

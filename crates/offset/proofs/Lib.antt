@@ -1,0 +1,13 @@
+-- The theory of offsets.
+pub mod Sums
+pub mod Turns
+pub mod Products
+pub mod Derivative
+pub mod Paths
+pub mod Areas
+pub mod Causes
+pub mod Answers
+pub mod Bernstein
+pub mod Geometry
+pub mod Once
+pub mod Examples

@@ -1,0 +1,121 @@
+-- `offset::put_offset` meets its contract: the start of the area is lent to the writer, and the rest to the clearing routine.
+use mathlib.Core.Path.{_≡_, refl, sym, _∙_}
+use mathlib.Core.List.{List}
+use mathlib.Core.Logic.{inl, inr}
+use Prim.Native.Nat.{ℕ, suc, _*_, _≤_}
+use native.Mathlib.Omega.{arith}
+use borrow.Author.Needs.{needs}
+use lib.IntN.{ℤ}
+use lib.ListN.{length, take, drop}
+use lib.Seq.{length-take-le}
+use mir.Syntax.{w64}
+use mir.ValLaws.{toZ-ofZ}
+use Rattle.root.specs.Roots.{quartic}
+use Rattle.curve.specs.Curves.{pointsOf}
+use Rattle.offset.specs.Offsets.{degreeOf, offsetCurve}
+use Rattle.offset.specs.Steps.{RowsOf}
+use Rattle.offset.proofs.Areas.{fills-none, fills-rest}
+use Rattle.offset.proofs.Turns.{few-points, rows-numbers}
+use Rattle.offset.proofs.put_offset.Statement.{statement}
+use Rattle.offset.proofs.put_offset.Tie as tie
+
+points-of-requires : tie.Need-points-of-requires
+points-of-requires c κs = search needs
+
+mul-size : tie.Need-mul-size
+mul-size c = omega (arith, c .points-of .ensures, few-points (c .before .args .curve))
+
+clear-requires : tie.Need-clear-requires
+clear-requires c κs = search needs
+
+same-length : tie.Need-same-length
+same-length c = search needs
+
+returns : tie.Need-returns
+returns c =
+    let k = c .before .before .before in
+    let o = k .before .before in
+    record {
+      refusal = inl (omega (arith, k .if1 .taken, k .before .points-of .ensures), refl);
+      same-room = same-length c;
+      cleared = λ n. fills-none (o .args .area .now) (c .before .clear .last .0) (c .before .clear .ensures);
+      written = λ e. absurd (omega arith);
+    }
+
+rows-requires : tie.Need-rows-requires
+rows-requires c κs = search needs
+
+slice-relend-prefix-put-points : tie.Need-slice-relend-prefix-put-points
+slice-relend-prefix-put-points c = search needs
+
+-- there is room
+module _ (c : tie.After-rows) where
+  abbrev o : tie.Start
+  o = c .before .before .before
+
+  abbrev area : List ℤ
+  area = o .args .area .now
+
+  abbrev points : ℕ
+  points = c .before .before .points-of .result
+
+  points-are : points ≡ suc (degreeOf (o .args .curve))
+  points-are = c .before .before .points-of .ensures
+
+  room : 3 * points ≤ length area
+  room = omega (arith, c .before .if1 .left)
+
+  start-long : length (take (3 * points) area) ≡ 3 * points
+  start-long = length-take-le (3 * points) area room
+
+  made : RowsOf (o .args .curve) (offsetCurve (pointsOf (o .args .curve)) (quartic (o .args .w)) (o .args .h)) (c .rows .result)
+  made = rw (toZ-ofZ w64 (o .args .h) (o .fits .h)) at (c .rows .ensures)
+
+slice-aggregate-put-points : tie.Need-slice-aggregate-put-points
+slice-aggregate-put-points c = sym (start-long (c .before))
+
+put-points-requires : tie.Need-put-points-requires
+put-points-requires c κs =
+    let k = c .before in
+    record {
+      room-is = start-long k;
+      few = omega (arith, points-are k, few-points (o k .args .curve));
+      w = made k .w .small;
+      x = made k .x .small;
+      y = made k .y .small;
+    }
+
+mul-clear : tie.Need-mul-clear
+mul-clear c = search needs
+
+sub-clear : tie.Need-sub-clear
+sub-clear c = search needs
+
+part-clear-start : tie.Need-part-clear-start
+part-clear-start c = search needs
+
+part-clear-end : tie.Need-part-clear-end
+part-clear-end c = search needs
+
+clear-requires-2 : tie.Need-clear-requires-2
+clear-requires-2 c κs = search needs
+
+same-length-2 : tie.Need-same-length-2
+same-length-2 c = search needs
+
+returns-2 : tie.Need-returns-2
+returns-2 c =
+    let t = c .before .before .before .before in
+    let k = t .before .before in
+    let numbers = t .put-points .ensures ∙ rows-numbers (o k .args .curve) (k .rows .result) (made k) (points-are k) in
+    record {
+      refusal = inr (λ l. omega (arith, room k, points-are k), refl);
+      same-room = same-length-2 c;
+      cleared = λ n. absurd (n refl);
+      written = λ e. fills-rest (3 * points k) _ (t .put-points .last .0) (drop (3 * points k) (area k)) (c .before .clear2 .last .0) numbers (sym (t .put-points .kept .0 ∙ start-long k)) (c .before .clear2 .ensures);
+    }
+
+pub put-offset-spec : {M : Type 1} → statement M
+put-offset-spec =
+    tie.close
+    (tie.spec points-of-requires mul-size clear-requires same-length returns rows-requires slice-relend-prefix-put-points slice-aggregate-put-points put-points-requires mul-clear sub-clear part-clear-start part-clear-end clear-requires-2 same-length-2 returns-2)

@@ -1,0 +1,78 @@
+// W = m q of a curve that has an offset.
+use crate::Denominator;
+use curve::Curve;
+use curve::PreimageAnswer;
+use curve::Square;
+use curve::preimage_of;
+use refusal::Refusal;
+use root::Quartic;
+use whole::Root;
+use whole::square_root;
+ghost use mathlib.Core.Path.{_≡_};
+ghost use Prim.Native.Nat.{_^_};
+ghost use Rattle.whole.specs.Number.{wholes, Within, Tells};
+ghost use Rattle.whole.specs.Poly.{scaled};
+ghost use Rattle.root.specs.Roots.{quartic, Small};
+ghost use Rattle.root.specs.Search.{Each};
+ghost use Rattle.offset.specs.Steps.{RootAsked, IsRooted, Denominated};
+
+// Whether h is from -20,000 to 20,000.
+fn in_range(h: i64) -> bool
+    ensures { λ r. ⌜ Tells (Within 20000 h) r ⌝ }
+{
+    if h < -20000 {
+        return false;
+    }
+    if h > 20000 {
+        return false;
+    }
+    true
+}
+
+// m q
+fn multiple(m: i64, q: Quartic) -> Quartic
+    requires { ⌜ Within (2 ^ 32) m × Each wholes Small (quartic q) ⌝ }
+    ensures { λ r. ⌜ quartic r ≡ scaled wholes m (quartic q) ⌝ }
+{
+    let q0 = q.q0;
+    let q1 = q.q1;
+    let q2 = q.q2;
+    let q3 = q.q3;
+    let q4 = q.q4;
+    Quartic {
+        q0: m * q0,
+        q1: m * q1,
+        q2: m * q2,
+        q3: m * q3,
+        q4: m * q4,
+    }
+}
+
+// m q where c is m^2.
+fn rooted(s: Square) -> Denominator
+    requires { ⌜ RootAsked s ⌝ }
+    ensures { λ r. ⌜ IsRooted s r ⌝ }
+{
+    let c = s.c;
+    let q = s.q;
+    match square_root(c as u64) {
+        Root::Square(m) => {
+            let w = multiple(m as i64, q);
+            Denominator::Found(w)
+        }
+        Root::NotSquare => Denominator::Refused(Refusal::Root),
+    }
+}
+
+// W, or the first cause why there is no offset, whatever the area.
+pub(crate) fn denominator_of(curve: Curve, h: i64) -> Denominator
+    ensures { λ r. ⌜ Denominated curve h r ⌝ }
+{
+    if !in_range(h) {
+        return Denominator::Refused(Refusal::Range);
+    }
+    match preimage_of(curve) {
+        PreimageAnswer::Found(p) => rooted(p.square),
+        PreimageAnswer::Refused(r) => Denominator::Refused(r),
+    }
+}
