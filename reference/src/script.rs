@@ -78,7 +78,10 @@ fn offset_text(words: &[&str]) -> Result<String, String> {
     let (h, room) = (number::<i64>(h)?, number::<usize>(room)?);
     let answer = offset(&curve(points)?, i128::from(h), room);
     Ok(match answer {
-        Ok(numbers) => format!("{} and {} zeros", row(&numbers), room - numbers.len()),
+        Ok(numbers) => {
+            let zeros = room - numbers.len();
+            format!("written {} and {zeros} zeros", row(&numbers))
+        }
         Err(refusal) => cleared(refusal, room),
     })
 }
@@ -209,7 +212,7 @@ mod tests {
         let turning = "x: turning 0 0 0 count 0 straight";
         assert_eq!(answer(&format!("inflections {line}")), turning);
         let moved = answer(&format!("offset {line} by 2 in 31"));
-        assert!(moved.starts_with("x: 252 0 -504 252 140 -504 252 280 -504 "));
+        assert!(moved.starts_with("x: written 252 0 -504 252 140 -504 252 280 -504 "));
         assert!(moved.ends_with(" 252 1260 -504 and 1 zeros"));
         let refused = "x: refused 12 and 29 zeros";
         assert_eq!(answer(&format!("offset {line} by 2 in 29")), refused);

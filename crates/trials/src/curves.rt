@@ -11,7 +11,7 @@ use words::say_pair;
 use words::say_refused;
 use words::say_signed;
 
-fn point(x: i64, y: i64) -> Pair {
+pub(crate) fn point(x: i64, y: i64) -> Pair {
     Pair { re: x, im: y }
 }
 

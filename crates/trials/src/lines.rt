@@ -3,6 +3,9 @@ ghost use Prim.Native.Nat.{_≤_};
 ghost use lib.ListN.{length};
 ghost use Rattle.io.specs.Counts.{Counts};
 use crate::curves;
+use crate::curves::curve_of;
+use crate::lent::lend;
+use crate::measures;
 use crate::numbers::numbers;
 use words::say;
 
@@ -29,9 +32,13 @@ fn call(text: &[u8]) {
     }
     let mut n = [0i64; 16];
     let count = numbers(text, &mut n);
-    let name = text[2];
-    if name == b'r' {
-        curves::recognise(curves::curve_of(&n, count));
+    match text[2] {
+        b'r' => curves::recognise(curve_of(&n, count)),
+        b'l' => measures::length(curve_of(&n, count)),
+        b'i' => measures::inflections(curve_of(&n, count)),
+        b'o' | b'j' => lend(&n, count),
+        b'b' => measures::build(&n, count),
+        _ => say(b"no such call"),
     }
     say(b"\n");
 }

@@ -1,0 +1,42 @@
+-- `lent::lend` is safe: what is lent is a part of the hundred numbers.
+use mathlib.Core.Path.{_≡_}
+use mathlib.Core.List.{List}
+use Prim.Native.Nat.{ℕ, _≤_}
+use native.Mathlib.Omega.{arith}
+use borrow.Author.Needs.{needs}
+use lib.IntN.{ℤ}
+use lib.ListN.{length, take, length-take}
+use Rattle.trials.proofs.lent.lend.Statement.{statement}
+use Rattle.trials.proofs.lent.lend.Tie as tie
+
+prefix : (n : ℕ) (xs : List ℤ) → n ≤ length xs → n ≡ length (take n xs)
+prefix n xs h = omega (arith, length-take n xs)
+
+last-requires : tie.Need-last-requires
+last-requires c κs = search needs
+
+room-requires : tie.Need-room-requires
+room-requires c κs = search needs
+
+array-borrow-prefix-space : tie.Need-array-borrow-prefix-space
+array-borrow-prefix-space c = search needs
+
+slice-aggregate-answer : tie.Need-slice-aggregate-answer
+slice-aggregate-answer c = prefix _ _ (c .before .room .ensures)
+
+answer-requires : tie.Need-answer-requires
+answer-requires c κs = search needs
+
+returns : tie.Need-returns
+returns c = search needs
+
+pub lend-spec : {M : Type 1} → statement M
+lend-spec =
+    tie.close
+    (tie.spec
+    last-requires
+    room-requires
+    array-borrow-prefix-space
+    slice-aggregate-answer
+    answer-requires
+    returns)
