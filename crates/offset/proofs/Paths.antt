@@ -1,9 +1,9 @@
 -- W, X and Y of a curve in range: what `path`, `row` and `weighted` are asked, and what their answers are.
---   path-asked, path-is       a part of r, by powers, from that part of D
---   at-part                   a coefficient of a part of a polynomial
---   coordinate                W times a part of r and h times a part of D, from rows
---   weighted-of               a polynomial with the weights of a curve
---   weight-size               the weights times the sizes of a row
+--   path-asked, path-is          a part of r, by powers, from that part of D
+--   at-part                      a coefficient of a part of a polynomial
+--   coordinate                   W times a part of r and h times a part of D, from rows
+--   weight-least, weight-size    the size of a weight, and of the weights times a row
+--   weighted-of                  a polynomial with the weights of a curve
 use mathlib.Core.Path.{_≡_, refl, sym, ap, ap₂, _∙_, subst}
 use mathlib.Core.List.{List, [], _∷_, map}
 use mathlib.Core.Logic.{_≢_}

@@ -8,6 +8,7 @@ use Prim.Native.Nat.{ℕ, zero, suc, _+_}
 use native.Mathlib.Omega.{arith}
 use lib.IntN.{ℤ, pos, _+ℤ_, _*ℤ_, +ℤ-assoc, +ℤ-idr, zero-*ℤ}
 use Rattle.whole.specs.Poly.{choose}
+use Rattle.whole.proofs.Integers.{*ℤ-plus}
 use Rattle.whole.proofs.Wholes.{wholes-ring, atomsℤ, readℤ, ringℤ}
 use Rattle.whole.proofs.Ring.{plus-times}
 use Rattle.poly.proofs.Binomials.{choose-above}
@@ -51,11 +52,8 @@ pascal k f =
     none : pos (choose k (suc k)) *ℤ f (suc k) ≡ pos 0
     none = ap (λ c. pos c *ℤ f (suc k)) (choose-above k (suc k) (omega arith)) ∙ zero-*ℤ (f (suc k))
 
-spread : (c a b : ℤ) → c *ℤ (a +ℤ b) ≡ c *ℤ a +ℤ c *ℤ b
-spread = wholes-ring .times-plus
-
 pub binomialSum-next : (f g : Series ℤ) → ((j : ℕ) → g j ≡ f j +ℤ f (suc j)) → (k : ℕ) → binomialSum f (suc k) ≡ binomialSum g k
 binomialSum-next f g e k =
     pascal k f
     ∙ sym (total-plus k (λ j. pos (choose k j) *ℤ f j) (λ j. pos (choose k j) *ℤ f (suc j)))
-    ∙ ap (total k) (fun-ext (λ j. sym (ap (λ x. pos (choose k j) *ℤ x) (e j) ∙ spread (pos (choose k j)) (f j) (f (suc j)))))
+    ∙ ap (total k) (fun-ext (λ j. sym (ap (λ x. pos (choose k j) *ℤ x) (e j) ∙ *ℤ-plus (pos (choose k j)) (f j) (f (suc j)))))

@@ -1,8 +1,11 @@
 -- What the loop that writes the points carries from turn to turn.
---   Turn                  so many points are left; the numbers written so far, and those of the points left, are all numbers
---   turn-start, turn-more, turn-end
---   few-points            at most ten points
---   rows-numbers          from the rows of a curve, these are the numbers of its offset
+--   numbers                     the numbers of so many points, from the rows of W, X and Y
+--   Doubled, doubled-fits       a row after so many turns, and that one more fits
+--   Turn                        so many points are left; the numbers written so far, and those of the points left, are all numbers
+--   turn-start, turn-more, turn-end      it holds at first and after each turn, and at the end all is written
+--   turn-left, turn-long        there is room for a point that is left; the area keeps its length
+--   few-points                  an offset has at most ten points
+--   rows-numbers                from the rows of a curve, these are the numbers of its offset
 use mathlib.Core.Path.{_≡_, refl, sym, ap, _∙_, fun-ext}
 use mathlib.Core.List.{List, [], _∷_, _++_, append-assoc}
 use Prim.Native.Nat.{ℕ, zero, suc, _+_, _*_, _^_, _<_, _≤_}

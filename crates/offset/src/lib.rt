@@ -1,6 +1,7 @@
 // The control points of a curve's offset.
 mod denominators;
 mod points;
+mod polynomials;
 mod terms;
 
 use curve::Curve;

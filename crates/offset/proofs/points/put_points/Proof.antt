@@ -24,14 +24,17 @@ abbrev μ-loop : tie.MeasureT-loop
 
 loop-holds : tie.Need-loop-holds Inv-loop μ-loop
 loop-holds c =
-    let s = c .before .before .before in
-    let p = s .pre in
-    turn-start (s .args .area .now) (s .args .count) (s .args .rows .w) (s .args .rows .x) (s .args .rows .y) (p .room-is) (p .few) (p .w) (p .x) (p .y)
+    let o = c .before .before .before in
+    let p = o .pre in
+    turn-start (o .args .area .now) (o .args .count) (o .args .rows .w) (o .args .rows .x) (o .args .rows .y) (p .room-is) (p .few) (p .w) (p .x) (p .y)
 
 -- what is known in a turn
 module _ (c : tie.After-struct-told3 Inv-loop μ-loop) where
+  abbrev s : tie.Start Inv-loop μ-loop
+  s = c .before .before .before .before .before .before .before .before
+
   abbrev before : List ℤ
-  before = c .before .before .before .before .before .before .before .before .args .area .now
+  before = s .args .area .now
 
   abbrev area : List ℤ
   area = c .before .before .before .before .loop .area
@@ -48,7 +51,7 @@ module _ (c : tie.After-struct-told3 Inv-loop μ-loop) where
   abbrev i : ℕ
   i = c .before .before .before .before .loop .i
 
-  abbrev turn : Turn (numbers (c .before .before .before .before .before .before .before .before .args .count) (c .before .before .before .before .before .before .before .before .args .rows .w) (c .before .before .before .before .before .before .before .before .args .rows .x) (c .before .before .before .before .before .before .before .before .args .rows .y)) before area w x y i
+  abbrev turn : Turn (numbers (s .args .count) (s .args .rows .w) (s .args .rows .x) (s .args .rows .y)) before area w x y i
   turn = c .before .before .before .before .loop .inv
 
   more : i < length before
@@ -106,18 +109,18 @@ next-requires-3 c κs = y-small (c .before .before)
 
 add-i : tie.Need-add-i Inv-loop μ-loop
 add-i c =
-    let s = c .before .before .before in
-    let p = s .before .before .before .before .before .before .before .before .pre in
-    omega (arith, turn-left (turn s) (more s), p .room-is, p .few)
+    let t = c .before .before .before in
+    let p = s t .pre in
+    omega (arith, turn-left (turn t) (more t), p .room-is, p .few)
 
 loop-less : tie.Need-loop-less Inv-loop μ-loop
 loop-less c = omega (arith, more (c .before .before .before))
 
 loop-again : tie.Need-loop-again Inv-loop μ-loop
 loop-again c =
-    let s = c .before .before .before in
-    rw (read-back tt (w-small s 0), read-back tt (x-small s 0), read-back tt (y-small s 0))
-    (turn-more (turn s) (more s) (c .before .before .next .ensures) (c .before .next2 .ensures) (c .next3 .ensures))
+    let t = c .before .before .before in
+    rw (read-back tt (w-small t 0), read-back tt (x-small t 0), read-back tt (y-small t 0))
+    (turn-more (turn t) (more t) (c .before .before .next .ensures) (c .before .next2 .ensures) (c .next3 .ensures))
 
 same-length : tie.Need-same-length Inv-loop μ-loop
 same-length c = turn-long (c .before .loop .inv)

@@ -164,7 +164,7 @@ module _ (c : tie.After-weights) where
   x-sized = row-sized (ten (c .before .before .before .row .result)) (x-asked p) (omega arith) (omega arith) (c .before .before .before .row .ensures)
 
   y-sized : (k : ℕ) → Within (rowSize 5 k) (at wholes (ten (c .before .before .row2 .result)) k)
-  y-sized = row-sized (ten (c .before .before .row2 .result)) (y-asked p (rw (less-is p) (less-small p))) (omega arith) (omega arith) (c .before .before .row2 .ensures)
+  y-sized = row-sized (ten (c .before .before .row2 .result)) (y-asked p (subst (Within 20000) (sym (less-is p)) (less-small p))) (omega arith) (omega arith) (c .before .before .row2 .ensures)
 
   w-sized : (k : ℕ) → Within 20000000 (at wholes (ten (c .before .extended .result)) k)
   w-sized k = rw (c .before .extended .ensures k) (o (g p) .pre .w-small k)

@@ -1,9 +1,9 @@
--- `terms::extended` meets its contract.
+-- `polynomials::extended` meets its contract.
 use mathlib.Core.Path.{refl}
 use Prim.Native.Nat.{zero, suc}
 use Rattle.whole.proofs.Bound.{read-back}
-use Rattle.offset.proofs.terms.extended.Statement.{statement}
-use Rattle.offset.proofs.terms.extended.Tie as tie
+use Rattle.offset.proofs.polynomials.extended.Statement.{statement}
+use Rattle.offset.proofs.polynomials.extended.Tie as tie
 
 returns : tie.Need-returns
 returns c zero = read-back tt (c .before .pre 0)

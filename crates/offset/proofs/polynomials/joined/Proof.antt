@@ -1,4 +1,4 @@
--- `terms::joined` meets its contract.
+-- `polynomials::joined` meets its contract.
 use mathlib.Core.Path.{_≡_, refl}
 use Prim.Native.Nat.{ℕ}
 use native.Mathlib.Omega.{arith}
@@ -10,8 +10,8 @@ use Rattle.whole.specs.Number.{wholes, Within}
 use Rattle.whole.proofs.Wholes.{readℤ}
 use Rattle.whole.proofs.Bound.{done, _▸_, bounds, fits, kept, read-back}
 use Rattle.offset.specs.Steps.{six, ten}
-use Rattle.offset.proofs.terms.joined.Statement.{statement}
-use Rattle.offset.proofs.terms.joined.Tie as tie
+use Rattle.offset.proofs.polynomials.joined.Statement.{statement}
+use Rattle.offset.proofs.polynomials.joined.Tie as tie
 
 -- one coefficient
 module _ {a b z : ℤ} (h : Within 20000000 a) (k : Within 1600000 b) (l : Within 130000000000000 z) where

@@ -1,4 +1,4 @@
--- `terms::weighted` meets its contract.
+-- `polynomials::weighted` meets its contract.
 use mathlib.Core.Path.{_≡_, refl}
 use Prim.Native.Nat.{ℕ, zero, suc}
 use lib.IntN.{ℤ, _*ℤ_}
@@ -9,8 +9,8 @@ use Rattle.whole.specs.Number.{wholes, Within}
 use Rattle.whole.proofs.Wholes.{readℤ}
 use Rattle.whole.proofs.Bound.{done, _▸_, bounds, fits, kept}
 use Rattle.offset.specs.Steps.{ten}
-use Rattle.offset.proofs.terms.weighted.Statement.{statement}
-use Rattle.offset.proofs.terms.weighted.Tie as tie
+use Rattle.offset.proofs.polynomials.weighted.Statement.{statement}
+use Rattle.offset.proofs.polynomials.weighted.Tie as tie
 
 -- one coefficient
 module _ {x y : ℤ} (h : Within 170000000000000 x) (k : Within 252 y) where

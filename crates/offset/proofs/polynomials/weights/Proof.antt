@@ -1,4 +1,4 @@
--- `terms::weights` meets its contract: each weight is computed.
+-- `polynomials::weights` meets its contract: each weight is computed.
 use mathlib.Core.Path.{_≡_, refl, sym, subst}
 use Prim.Native.Nat.{ℕ, zero, suc, _/_}
 use borrow.Author.Needs.{needs}
@@ -7,8 +7,8 @@ use Rattle.whole.specs.Poly.{at, choose}
 use Rattle.whole.specs.Number.{wholes}
 use Rattle.offset.specs.declared.Ten.{Ten}
 use Rattle.offset.specs.Steps.{ten, Weights}
-use Rattle.offset.proofs.terms.weights.Statement.{statement}
-use Rattle.offset.proofs.terms.weights.Tie as tie
+use Rattle.offset.proofs.polynomials.weights.Statement.{statement}
+use Rattle.offset.proofs.polynomials.weights.Tie as tie
 
 enum-told : tie.Need-enum-told
 enum-told c = search needs
