@@ -1,7 +1,7 @@
 // What a lent number area holds.
-use words::say;
-use words::say_number;
-use words::say_signed;
+use crate::words::say;
+use crate::words::say_number;
+use crate::words::say_signed;
 
 // How many zeros stand from a place on.
 fn zeros(area: &[i64], from: usize) -> usize {

@@ -1,4 +1,8 @@
 // The calls on a curve, and what each answers.
+use crate::words::say;
+use crate::words::say_pair;
+use crate::words::say_refused;
+use crate::words::say_signed;
 use curve::Cubic;
 use curve::Curve;
 use curve::Preimage;
@@ -6,10 +10,6 @@ use curve::Quintic;
 use curve::Square;
 use curve::Verdict;
 use pair::Pair;
-use words::say;
-use words::say_pair;
-use words::say_refused;
-use words::say_signed;
 
 pub(crate) fn point(x: i64, y: i64) -> Pair {
     Pair { re: x, im: y }

@@ -3,14 +3,14 @@ ghost use Prim.Native.Nat.{_≤_};
 use crate::areas::say_area;
 use crate::curves::curve_of;
 use crate::curves::point;
+use crate::words::say;
+use crate::words::say_number;
+use crate::words::say_refused;
+use crate::words::wide;
 use curve::Curve;
 use join::JoinAnswer;
 use offset::OffsetAnswer;
 use whole::size;
-use words::say;
-use words::say_number;
-use words::say_refused;
-use words::wide;
 
 // How many of the hundred numbers are lent.
 fn room(x: i64) -> usize

@@ -7,7 +7,7 @@ use crate::curves::curve_of;
 use crate::lent::lend;
 use crate::measures;
 use crate::numbers::numbers;
-use words::say;
+use crate::words::say;
 
 // The first place from `from` on that has the byte, or the text's end.
 fn find(text: &[u8], from: usize, byte: u8) -> usize

@@ -1,16 +1,16 @@
 // Length, inflections and building, and what each answers.
 use crate::curves::point;
+use crate::words::say;
+use crate::words::say_curve;
+use crate::words::say_number;
+use crate::words::say_refused;
+use crate::words::say_signed;
+use crate::words::wide;
 use build::BuildAnswer;
 use curve::Curve;
 use measure::InflectionAnswer;
 use measure::LengthAnswer;
 use measure::Turning;
-use words::say;
-use words::say_curve;
-use words::say_number;
-use words::say_refused;
-use words::say_signed;
-use words::wide;
 
 pub(crate) fn length(curve: Curve) {
     match measure::length(curve) {

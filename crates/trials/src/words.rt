@@ -1,4 +1,4 @@
-// Words and numbers on the standard output, for the programs that try the calls.
+// Words and numbers on the standard output.
 ghost use Prim.Native.Nat.{_<_};
 use curve::Curve;
 use libc::STDOUT_FILENO;
@@ -6,29 +6,29 @@ use pair::Pair;
 use refusal::Refusal;
 use whole::size;
 
-pub fn say(text: &[u8]) {
+pub(crate) fn say(text: &[u8]) {
     io::write_all(STDOUT_FILENO, text);
 }
 
-pub fn say_number(n: u64) {
+pub(crate) fn say_number(n: u64) {
     io::print_decimal(STDOUT_FILENO, n);
 }
 
 // A byte as a number: its bound is what a caller who adds up bytes needs.
-pub fn wide(b: u8) -> u64
+pub(crate) fn wide(b: u8) -> u64
     ensures { λ r. ⌜ r < 256 ⌝ }
 {
     b as u64
 }
 
-pub fn say_signed(x: i64) {
+pub(crate) fn say_signed(x: i64) {
     if x < 0 {
         say(b"-");
     }
     say_number(size(x));
 }
 
-pub fn say_pair(p: Pair) {
+pub(crate) fn say_pair(p: Pair) {
     say(b"(");
     say_signed(p.re);
     say(b",");
@@ -37,7 +37,7 @@ pub fn say_pair(p: Pair) {
 }
 
 // The points of a curve.
-pub fn say_curve(curve: Curve) {
+pub(crate) fn say_curve(curve: Curve) {
     match curve {
         Curve::Cubic(c) => say_four(c.p0, c.p1, c.p2, c.p3),
         Curve::Quintic(c) => {
@@ -60,7 +60,7 @@ fn say_four(a: Pair, b: Pair, c: Pair, d: Pair) {
     say_pair(d);
 }
 
-pub fn say_refused(r: Refusal) {
+pub(crate) fn say_refused(r: Refusal) {
     say(b"refused ");
     say_number(wide(refusal::number(r)));
 }

@@ -1,14 +1,14 @@
 // Each call's answer on a sheet, as a line of text.
+use crate::words::say;
+use crate::words::say_curve;
+use crate::words::say_number;
+use crate::words::say_refused;
+use crate::words::wide;
 use curve::Curve;
 use refusal::Refusal;
 use sheet::Change;
 use sheet::Checked;
 use sheet::Reading;
-use words::say;
-use words::say_curve;
-use words::say_number;
-use words::say_refused;
-use words::wide;
 
 fn say_refusal(r: Refusal, place: usize) {
     say(b": ");

@@ -3,8 +3,8 @@ use borrow.Author.Needs.{needs}
 use Prim.Native.Nat.{_-_, _≤_, _<_}
 use native.Mathlib.Omega.{arith}
 use lib.ListN.{length}
-use Rattle.sheet_trials.proofs.answers.sum.Statement.{statement}
-use Rattle.sheet_trials.proofs.answers.sum.Tie as tie
+use Rattle.trials.proofs.answers.sum.Statement.{statement}
+use Rattle.trials.proofs.answers.sum.Tie as tie
 
 abbrev Inv-loop : tie.InvT-loop
 Inv-loop bytes total₀ i₀ total i = (total < 4294967296) × (i ≤ length bytes)
