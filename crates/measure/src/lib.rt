@@ -68,7 +68,7 @@ fn quintic_a(q: Quartic) -> i64
 }
 
 // The length, where N = c q^2.
-fn length_by(curve: Curve, s: Square) -> LengthAnswer
+pub fn length_by(curve: Curve, s: Square) -> LengthAnswer
     requires { ⌜ Each wholes Small (quartic (s .q)) ⌝ }
     ensures { λ r. ⌜ r ≡ lengthBy curve s ⌝ }
 {
