@@ -1,13 +1,16 @@
 -- Decimal digits.
 --   decimal-is     the digits that `io::decimal` gives, the fewest that hold a number, are those of the definition
+--   decimal-few    a number below 10ᵏ has at most k digits, where k is not 0
 use mathlib.Core.Path.{_≡_, refl, ap, _∙_, subst}
 use mathlib.Core.List.{List, [], _∷_, _++_}
 use Prim.Native.Nat.{ℕ, zero, suc, _+_, _-_, _*_, _/_, _%_, _^_, _≤_, _<_}
 use native.Mathlib.Omega.{arith}
 use lib.Dec.{ltb}
-use borrow.Author.Tests.{lt-ltb, le-ltb}
+use lib.ListN.{length, length-append}
+use borrow.Author.Tests.{lt-ltb, le-ltb, ltb-false}
 use Rattle.io.specs.Digits.{digits, glyph, Fewest}
 use Rattle.sheet.specs.Choice.{if_then_else_}
+use Rattle.sheet.proofs.Choose.{by-test}
 use Rattle.report_text.specs.Texts.{digitsOf, decimal}
 
 power : (k : ℕ) → 10 ^ suc k ≡ 10 * 10 ^ k
@@ -51,3 +54,15 @@ few n (suc (suc k)) f = omega (arith, least-held n k f, below-power (suc k))
 
 pub decimal-is : (n k : ℕ) → Fewest 10 1 n k → digits 10 k n ≡ decimal n
 decimal-is n k f = digits-are (suc n) k n (few n k f) f
+
+digits-few : (most k n : ℕ) → n < 10 ^ suc k → length (digitsOf most n) ≤ suc k
+unfolding digitsOf
+digits-few zero k n l = omega arith
+digits-few (suc most) zero n l = by-test (λ (x : List ℕ). length x ≤ 1) (ltb n 10) (λ _. omega arith) (λ f. absurd (omega (arith, ltb-false n 10 f)))
+digits-few (suc most) (suc k) n l =
+    let h = digits-few most k (n / 10) (omega (arith, power (suc k))) in
+    by-test (λ (x : List ℕ). length x ≤ suc (suc k)) (ltb n 10) (λ _. omega arith)
+    (λ _. omega (arith, length-append (digitsOf most (n / 10)) ((48 + n % 10) ∷ [])))
+
+pub decimal-few : (k n : ℕ) → n < 10 ^ suc k → length (decimal n) ≤ suc k
+decimal-few k n l = digits-few (suc n) k n l

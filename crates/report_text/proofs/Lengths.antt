@@ -1,22 +1,20 @@
--- The length of a curve with a pre-image is a sum of squares. (Belongs to the crate `measure`.)
---   root-small      q's coefficients are small enough for `length_a`
---   length-nonneg   A is not negative: 3 A is the sum of 5 (6 b0 + 3 b1 + 2 b2)², 15 (b1 + b2)² and b2², over the parts of w
+-- The numbers of a length are not negative. (This file belongs to the crate `measure`.)
+--   root-small           q's coefficients are small enough for `length_by`
+--   length-nonneg        A is not negative: for a quintic 3 A is the sum of 5 (6 b0 + 3 b1 + 2 b2)², 15 (b1 + b2)² and b2², over both parts of w
 --   denominator-nonneg   nor is B
 --   length-answered      `length_by` does not refuse
-use mathlib.Core.Path.{_≡_, refl, sym, ap, _∙_, subst, fun-ext}
+use mathlib.Core.Path.{_≡_, refl, sym, subst, fun-ext}
 use mathlib.Core.List.{List, [], _∷_}
-use Prim.Native.Nat.{ℕ, suc, _+_, _≤_, _<_}
+use Prim.Native.Nat.{ℕ}
 use native.Mathlib.Omega.{arith}
 use lib.IntN.{ℤ, pos, _+ℤ_, _*ℤ_}
-use lib.ListN.{length}
 use lib.Signed.{_≤ℤ_}
 use Rattle.refusal.specs.declared.Refusal.{Refusal}
-use Rattle.whole.specs.Poly.{at, Same, sum, scaled, product, square, choose}
+use Rattle.whole.specs.Poly.{at}
 use Rattle.whole.specs.Number.{wholes}
 use Rattle.whole.proofs.Wholes.{atomsℤ, readℤ, read-pos, ringℤ, equal-by, zero-equal, zero-times, zero-plus}
-use Rattle.whole.proofs.Linear.{linear, plus-parts, times-parts}
+use Rattle.whole.proofs.Linear.{linear, times-parts}
 use Rattle.whole.proofs.Order.{nonneg-plus, nonneg-times, nonneg-square}
-use Rattle.poly.specs.Terms.{Above}
 use Rattle.poly.proofs.Series.{conv}
 use Rattle.pair.specs.declared.Pair.{Pair}
 use Rattle.pair.specs.Pairs.{pairs}
@@ -28,7 +26,7 @@ use Rattle.root.specs.Search.{Each}
 use Rattle.curve.specs.declared.Curve.{Curve}
 use Rattle.curve.specs.declared.Curve.the-variants.{Cubic, Quintic}
 use Rattle.curve.specs.declared.Preimage.{Preimage}
-use Rattle.curve.specs.Curves.{pointsOf, InRange, differences, powers, powerForm, legPolynomial, squaredLength}
+use Rattle.curve.specs.Curves.{pointsOf, InRange, legPolynomial, squaredLength}
 use Rattle.curve.specs.Verdicts.{PreimageOf}
 use Rattle.curve.proofs.LegPolynomial.{pointsOf-length, legPolynomial-above}
 use Rattle.curve.proofs.Lengths.{re-of, im-of, at-squaredLength, squared-above}

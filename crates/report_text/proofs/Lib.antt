@@ -5,4 +5,5 @@ pub mod Readings
 pub mod Lengths
 pub mod Reported
 pub mod Once
+pub mod Short
 pub mod Examples

@@ -2,7 +2,7 @@
 --   line-once, lines-once     the line of a curve; the lines of the first curves
 --   report-once               the report of a sheet
 --   reported-once             what `write_report` promises: one area and one answer
-use mathlib.Core.Path.{_≡_, refl, sym, ap, ap₂, _∙_, subst}
+use mathlib.Core.Path.{_≡_, sym, ap, ap₂, _∙_, subst}
 use mathlib.Core.List.{List, _++_}
 use Prim.Native.Nat.{ℕ, zero, suc}
 use native.Mathlib.Omega.{arith}
@@ -10,7 +10,6 @@ use lib.ListN.{length}
 use Rattle.refusal.specs.Table.{numberOf}
 use Rattle.refusal.proofs.Laws.{number-once}
 use Rattle.curve.specs.declared.Curve.{Curve}
-use Rattle.curve.specs.declared.Verdict.{Verdict}
 use Rattle.curve.specs.Curves.{pointsOf}
 use Rattle.curve.specs.Promise.{Recognised}
 use Rattle.curve.proofs.Once.{recognised-once}

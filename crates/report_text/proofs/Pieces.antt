@@ -3,7 +3,7 @@
 --   writes-full                             behind a text that did not fit
 --   numbered                                a label and a number that is not negative
 --   writes-none, _then_                     nothing; one piece and then another
-use mathlib.Core.Path.{_≡_, refl, sym, ap, _∙_, subst}
+use mathlib.Core.Path.{_≡_, sym, ap, _∙_, subst}
 use mathlib.Core.List.{List, [], _∷_, _++_, append-assoc, append-nil}
 use Prim.Native.Nat.{ℕ, _+_, _≤_, _<_}
 use native.Mathlib.Omega.{arith}

@@ -1,9 +1,10 @@
 -- What `check` and `read` of the crate `sheet` tell together.
+--   no-answer         what is given is not refused
 --   read-in-range     a curve that is read is in range
 --   read-listed       a number up to the count is not refused
 --   lines-more        the line of the curve that is read comes behind those of the curves before
 use mathlib.Core.Path.{_≡_, refl, sym, ap, _∙_, subst}
-use mathlib.Core.Logic.{inl, inr, ⊎-elim}
+use mathlib.Core.Logic.{⊎-elim}
 use mathlib.Core.List.{List, _++_}
 use Prim.Native.Nat.{ℕ, suc, _+_, _≤_, _<_}
 use native.Mathlib.Omega.{arith}
@@ -15,7 +16,7 @@ use Rattle.refusal.proofs.Laws.{number-positive}
 use Rattle.curve.specs.declared.Curve.{Curve}
 use Rattle.curve.specs.Curves.{pointsOf, InRange}
 use Rattle.sheet.specs.declared.Reading.the-variants as reading
-use Rattle.sheet.specs.Sheets.{Answer, refused, given, refuse, with-given, outcome, chosen, pointsIn, numberOfAnswer}
+use Rattle.sheet.specs.Sheets.{Answer, refused, given, with-given, outcome, chosen, pointsIn, numberOfAnswer}
 use Rattle.sheet.specs.Promises.{Reads}
 use Rattle.sheet.proofs.Laws.{chosen-in-range, read-order}
 use Rattle.report_text.specs.declared.areas.Place.{Place}
@@ -23,7 +24,7 @@ use Rattle.report_text.specs.Texts.{lineText}
 use Rattle.report_text.specs.Steps.{Writes, WritesLine, WritesLines}
 use Rattle.report_text.proofs.Pieces.{_then_}
 
-no-answer : {A X : Type 0} {a : A} {n p : ℕ} → given a ≡ refused n p → X
+pub no-answer : {A X : Type 0} {a : A} {n p : ℕ} → given a ≡ refused n p → X
 no-answer e = let z : _≡_ {A = ℕ} 0 1 = cc in absurd (omega arith)
 
 pub read-in-range : (s : List ℕ) (number : ℕ) (c : Curve) → Reads s number (reading.Points c) → InRange (pointsOf c)

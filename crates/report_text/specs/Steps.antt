@@ -4,7 +4,7 @@
 --   WritesVerdict, WritesLine, WritesLines   the same, of a text that verdicts decide
 --   HoldsReport   an area holds a sheet's report, or is too short for it
 use mathlib.Core.Path.{_≡_}
-use mathlib.Core.List.{List, [], _++_}
+use mathlib.Core.List.{List, _++_}
 use Prim.Native.Nat.{ℕ, _≤_, _<_}
 use lib.ListN.{length, take}
 use Rattle.curve.specs.declared.Curve.{Curve}

@@ -4,7 +4,7 @@ use mathlib.Core.Path.{_≡_, refl, sym, ap, _∙_, subst}
 use mathlib.Core.List.{List, _++_}
 use Prim.Native.Nat.{ℕ}
 use lib.ListN.{length}
-use Rattle.sheet.specs.Sheets.{Answer, refused, given, refuse, with-given, outcome}
+use Rattle.sheet.specs.Sheets.{Answer, given, with-given, outcome}
 use Rattle.sheet.specs.Promises.{answerOfChecked}
 use Rattle.report_text.specs.Texts.{firstLine, refusedLine}
 use Rattle.report_text.specs.Reports.{ReportOf}

@@ -1,10 +1,7 @@
 -- `write_report` meets its contract: what is behind the text is cleared, and all of it where there is no room.
 use borrow.Author.Needs.{needs}
-use mathlib.Core.Path.{_≡_, sym, ap, _∙_, subst}
-use mathlib.Core.List.{List}
-use Prim.Native.Nat.{ℕ}
-use Rattle.report_text.specs.declared.areas.Place.{Place}
-use Rattle.report_text.specs.declared.areas.Place.the-variants.{At, Full}
+use mathlib.Core.Path.{subst}
+use Rattle.report_text.specs.declared.areas.Place.the-variants.{At}
 use Rattle.report_text.specs.Steps.{HoldsReport}
 use Rattle.report_text.proofs.Reported.{report-written, report-no-room}
 use Rattle.report_text.proofs.write_report.Statement.{statement}

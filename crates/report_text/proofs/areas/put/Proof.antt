@@ -1,8 +1,8 @@
 -- `areas::put` meets its contract. Invariant: the first i bytes stand behind what stood before the start.
 use borrow.Author.Needs.{needs}
 use mathlib.Core.Path.{_≡_, refl, sym, _∙_, subst}
-use mathlib.Core.List.{List, _++_, append-nil}
-use Prim.Native.Nat.{ℕ, _+_, _-_, _≤_}
+use mathlib.Core.List.{_++_, append-nil}
+use Prim.Native.Nat.{_+_, _-_, _≤_}
 use native.Mathlib.Omega.{arith}
 use lib.ListN.{length, take, length-set}
 use Rattle.report_text.specs.declared.areas.Place.{Place}
@@ -40,7 +40,7 @@ returns-2 c =
     let s = c .before .before .before .before .before .before .args in
     let l = c .before .before .loop in
     subst (λ (p : Place). Writes (s .area .now) p (s .text .now) (l .area) Full) (sym (c .before .before .before .before .place .given .1))
-    (copied-short _ _ _ _ (l .at) (l .i) (l .inv .0) (l .inv .2) (c .if1 .taken) (c .before .loop-test .taken))
+    (copied-short (s .area .now) (s .text .now) (l .area) _ (l .at) (l .i) (l .inv .0) (l .inv .2) (omega arith) (c .before .loop-test .taken))
 
 shared-slice-read-area : tie.Need-shared-slice-read-area Inv-loop μ-loop
 shared-slice-read-area c = search needs

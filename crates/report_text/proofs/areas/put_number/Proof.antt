@@ -1,6 +1,6 @@
 -- `areas::put_number` meets its contract: the digits of `io::decimal` are those of the definition.
 use borrow.Author.Needs.{needs}
-use mathlib.Core.Path.{_≡_, _∙_, subst}
+use mathlib.Core.Path.{_∙_, subst}
 use mathlib.Core.List.{List}
 use Prim.Native.Nat.{ℕ}
 use Rattle.report_text.specs.Steps.{Writes}

@@ -1,9 +1,5 @@
 -- `lines::put_kind` meets its contract.
 use borrow.Author.Needs.{needs}
-use mathlib.Core.Path.{_≡_, sym, subst}
-use Rattle.curve.specs.declared.Curve.{Curve}
-use Rattle.report_text.specs.Texts.{kindText}
-use Rattle.report_text.specs.Steps.{Writes}
 use Rattle.report_text.proofs.lines.put_kind.Statement.{statement}
 use Rattle.report_text.proofs.lines.put_kind.Tie as tie
 
@@ -29,17 +25,13 @@ same-length : tie.Need-same-length
 same-length c = search needs
 
 returns : tie.Need-returns
-returns c =
-    let s = c .before .before .before .before .before .before .before .before .args in
-    subst (λ (x : Curve). Writes (s .area .now) (s .place) (kindText x) (c .before .before .put .last .0) (c .before .before .put .result)) (sym (c .before .before .before .before .before .enum-told .given .1)) (c .before .before .put .ensures)
+returns c = rw (c .before .before .before .before .before .enum-told .given .1) (c .before .before .put .ensures)
 
 same-length-2 : tie.Need-same-length-2
 same-length-2 c = search needs
 
 returns-2 : tie.Need-returns-2
-returns-2 c =
-    let s = c .before .before .before .before .before .before .before .before .args in
-    subst (λ (x : Curve). Writes (s .area .now) (s .place) (kindText x) (c .before .before .put2 .last .0) (c .before .before .put2 .result)) (sym (c .before .before .before .before .before .enum-told2 .given .1)) (c .before .before .put2 .ensures)
+returns-2 c = rw (c .before .before .before .before .before .enum-told2 .given .1) (c .before .before .put2 .ensures)
 
 pub put-kind-spec : {M : Type 1} → statement M
 put-kind-spec =

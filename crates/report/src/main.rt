@@ -1,0 +1,28 @@
+// Reads a parameter sheet from the standard input and writes its report to the standard output.
+ghost use Prim.Native.Nat.{_≤_};
+ghost use lib.ListN.{length, take};
+ghost use Rattle.report_text.specs.Reports.{Report};
+use libc::STDIN_FILENO;
+use libc::STDOUT_FILENO;
+use report_text::ReportAnswer;
+use report_text::write_report;
+
+// The report of a sheet. No report is longer than 5,321 bytes.
+fn report_of(sheet: &[u8], text: &mut [u8]) -> usize
+    requires { ⌜ 5321 ≤ length (now text) ⌝ }
+    ensures { λ n. ⌜ (n ≤ length (now (text .exit))) × Report (now (sheet .entry)) (take n (now (text .exit))) ⌝ }
+{
+    match write_report(sheet, text) {
+        ReportAnswer::Written(end) => end,
+        ReportAnswer::Refused(_) => 0,
+    }
+}
+
+// A sheet that is too long is seen by its first byte too many.
+fn main() {
+    let mut sheet = [0u8; 4097];
+    let read = io::read_full(STDIN_FILENO, &mut sheet);
+    let mut text = [0u8; 5321];
+    let end = report_of(&sheet[..read], &mut text);
+    io::write_all(STDOUT_FILENO, &text[..end]);
+}
