@@ -1,7 +1,7 @@
--- Theorems: pieces of text in an area, decimal digits.
+-- Theorems: texts and digits, what sheets and lengths tell, the promise and its one answer, how long a report is, the document's sample.
 pub mod Pieces
 pub mod Decimals
-pub mod Readings
+pub mod OfSheet
 pub mod Lengths
 pub mod Reported
 pub mod Once

@@ -1,11 +1,12 @@
 -- Pieces of text that are written one after another.
 --   copied-more, copied-short, copied-all   a piece, byte by byte: one more, no room for one more, and all of it
 --   writes-full                             behind a text that did not fit
---   numbered                                a label and a number that is not negative
 --   writes-none, _then_                     nothing; one piece and then another
-use mathlib.Core.Path.{_≡_, sym, ap, _∙_, subst}
+--   numbered                                a label and a number that is not negative
+--   lines-more                              the line of the curve that is read comes behind those of the curves before
+use mathlib.Core.Path.{_≡_, refl, sym, ap, _∙_, subst}
 use mathlib.Core.List.{List, [], _∷_, _++_, append-assoc, append-nil}
-use Prim.Native.Nat.{ℕ, _+_, _≤_, _<_}
+use Prim.Native.Nat.{ℕ, suc, _+_, _≤_, _<_}
 use native.Mathlib.Omega.{arith}
 use native.Mathlib.Numerals.{add-one}
 use lib.IntN.{ℤ, pos, natAbs}
@@ -13,10 +14,13 @@ use lib.ListN.{length, take, set, getD, length-append, length-take}
 use lib.Signed.{_≤ℤ_}
 use lib.Seq.{take-all, take-suc, take-suc-set}
 use Rattle.whole.proofs.Order.{nonneg-is}
+use Rattle.curve.specs.declared.Curve.{Curve}
+use Rattle.sheet.specs.declared.Reading.the-variants as reading
+use Rattle.sheet.specs.Promises.{Reads}
 use Rattle.report_text.specs.declared.areas.Place.{Place}
 use Rattle.report_text.specs.declared.areas.Place.the-variants.{At, Full}
-use Rattle.report_text.specs.Texts.{decimal, signed}
-use Rattle.report_text.specs.Steps.{Holds, Writes}
+use Rattle.report_text.specs.Texts.{decimal, signed, lineText}
+use Rattle.report_text.specs.Steps.{Holds, Writes, WritesLine, WritesLines}
 
 pub copied-more :
     (area text front : List ℕ) (at i : ℕ) → at < length area → i < length text → take at area ≡ front ++ take i text →
@@ -57,3 +61,15 @@ pub numbered :
     (label : List ℕ) (x : ℤ) {before after : List ℕ} {place next : Place} {n : ℕ} → n ≡ natAbs x → pos 0 ≤ℤ x → Writes before place (label ++ decimal n) after next →
     Writes before place (label ++ signed x) after next
 numbered label x {before} {after} {place} {next} e h w = subst (λ (z : ℤ). Writes before place (label ++ signed z) after next) (ap pos e ∙ sym (nonneg-is h)) w
+
+pub lines-more :
+    {a b d s : List ℕ} {p q r : Place} {c : Curve} (k : ℕ) → WritesLines a p s k b q → Reads s (suc k) (reading.Points c) → WritesLine b q (k + 1) c d r →
+    WritesLines a p s (k + 1) d r
+lines-more {a} {b} {d} {s} {p} {q} {r} {c} k w h l =
+    let line = lineText (suc k) c (l .verdict) in
+    subst (λ (n : ℕ). WritesLines a p s n d r) (sym (add-one k))
+    (record {
+      lines = w .lines ++ line;
+      of-curves = (w .lines, line, w .of-curves, record { curve = c; verdict = l .verdict; reads = h; recognised = l .recognised; is = refl }, refl);
+      writes = w .writes then subst (λ (n : ℕ). Writes b q (lineText n c (l .verdict)) d r) (add-one k) (l .writes);
+    })

@@ -1,21 +1,18 @@
 -- How long a report can be.
 --   content-small, length-small   c has at most 15 digits, and A at most 10
 --   line-short                    a line of a curve has at most 47 bytes
---   curves-few                    a sheet has at most 113 curves
---   fault-small                   a refusal's number has at most two digits, and its place at most four
 --   report-short                  a report has at most 5,321 bytes
 --   room-enough                   so an area of that length is not refused
-use mathlib.Core.Path.{_≡_, refl, sym, ap, _∙_, subst}
-use mathlib.Core.List.{List, [], _∷_, _++_}
-use Prim.Native.Nat.{ℕ, zero, suc, _+_, _*_, _^_, _≤_, _<_}
+use mathlib.Core.Path.{_≡_, refl, sym, ap, _∙_}
+use mathlib.Core.List.{List, _++_}
+use Prim.Native.Nat.{ℕ, zero, suc, _*_, _^_, _≤_, _<_}
 use native.Mathlib.Nat.{mul-le-mul, mul-le-mul-left}
 use native.Mathlib.Omega.{arith}
 use lib.IntN.{ℤ, pos, negsuc, natAbs}
-use lib.ListN.{length, take, drop, length-append, length-drop}
+use lib.ListN.{length, length-append}
 use lib.Signed.{_≤ℤ_}
 use Rattle.refusal.specs.declared.Refusal.{Refusal}
 use Rattle.refusal.specs.declared.Refusal.the-variants as refusal
-use Rattle.refusal.specs.Table.{numberOf}
 use Rattle.whole.specs.Poly.{at}
 use Rattle.whole.specs.Number.{wholes, Within}
 use Rattle.whole.proofs.Wholes.{readℤ, read-pos}
@@ -35,20 +32,15 @@ use Rattle.curve.specs.Promise.{Recognised}
 use Rattle.curve.proofs.LegPolynomial.{pointsOf-length}
 use Rattle.curve.proofs.Sizes.{root-size}
 use Rattle.measure.specs.Lengths.{lengthA, lengthB}
-use Rattle.sheet.specs.Kinds.{Kind}
-use Rattle.sheet.specs.Steps.{stepOf}
-use Rattle.sheet.specs.Sheets.{Answer, refused, given, with-given, joined, recordsFrom, outcome}
-use Rattle.sheet.specs.declared.steps.Step.{Step}
+use Rattle.sheet.specs.Sheets.{refused, given, with-given, outcome}
 use Rattle.sheet.specs.declared.steps.Step.the-variants as step
-use Rattle.sheet.proofs.Choose.{by-order}
-use Rattle.sheet.proofs.Shown.{Known, cubic, quintic, fault-near, step-whole}
-use Rattle.sheet.proofs.Outcomes.{Records, flat, AllWhole, sound-of, outcome-long, outcome-short, reads}
+use Rattle.sheet.proofs.Outcomes.{Records, reads}
 use Rattle.report_text.specs.declared.ReportAnswer.the-variants as report
 use Rattle.report_text.specs.Texts.{signed, labelled, bytes, decimal, firstLine, kindText, verdictText}
 use Rattle.report_text.specs.Reports.{Line, Lines, ReportOf, Report, Reported}
 use Rattle.report_text.proofs.Decimals.{decimal-few}
 use Rattle.report_text.proofs.Lengths.{root-small, length-nonneg}
-use Rattle.report_text.proofs.Readings.{no-answer, read-in-range}
+use Rattle.report_text.proofs.OfSheet.{no-answer, read-in-range, curves-few, fault-small}
 use Rattle.report_text.proofs.Reported.{asked-fits}
 
 -- ---- the numbers
@@ -130,71 +122,6 @@ lines-short : (s : List ℕ) (n : ℕ) (t : List ℕ) → Lines s n t → n < 10
 lines-short s zero t h m = omega (arith, ap length h)
 lines-short s (suc n) t (e, l, h, k, is) m =
     omega (arith, ap length is, length-append e l, lines-short s n e h (omega arith), line-short s (suc n) l k m)
-
--- ---- how many
-
-known-long : {k : Kind} → Known k → 36 ≤ k .size
-known-long cubic = omega arith
-known-long quintic = omega arith
-
-flat-long : (rs : List (List ℕ)) → AllWhole rs → 36 * length rs ≤ length (flat rs)
-flat-long [] w = omega arith
-flat-long (x ∷ rs) w = omega (arith, flat-long rs (w .1), length-append x (flat rs), w .0 .long, known-long (w .0 .known))
-
-pub curves-few : (s : List ℕ) (rs : List (List ℕ)) → outcome s ≡ given rs → length rs ≤ 113
-curves-few s rs o =
-    let h = sound-of s rs o in
-    omega (arith, h .0, ap length (h .1 .parts), length-append (flat rs) (h .1 .tail), flat-long rs (h .1 .all))
-
--- ---- a faulty sheet
-
-number-small : (r : Refusal) → numberOf r < 100
-number-small refusal.TooLong = omega arith
-number-small refusal.Cut = omega arith
-number-small refusal.Leftover = omega arith
-number-small refusal.Kind = omega arith
-number-small refusal.Length = omega arith
-number-small refusal.Range = omega arith
-number-small refusal.Number = omega arith
-number-small refusal.Still = omega arith
-number-small refusal.NotPh = omega arith
-number-small refusal.NoPreimage = omega arith
-number-small refusal.Root = omega arith
-number-small refusal.Room = omega arith
-number-small refusal.Thirds = omega arith
-number-small refusal.DeadEnd = omega arith
-
-refused-back : {A B : Type 0} (f : A → B) {n p : ℕ} (a : Answer A) → with-given f a ≡ refused n p → a ≡ refused n p
-refused-back f (refused n p) e = cc
-refused-back f (given a) e = no-answer e
-
-records-fault : (most at : ℕ) (rest : List ℕ) (n p : ℕ) → recordsFrom most at rest ≡ refused n p → (n < 100) × (p ≤ at + length rest)
-unfolding recordsFrom
-records-fault zero at rest n p e = no-answer e
-records-fault (suc most) at rest n p e = by (stepOf rest) refl (λ a t. records-fault most a t n p) e
-  where
-    by :
-        (x : Step) → stepOf rest ≡ x → ((a : ℕ) (t : List ℕ) → recordsFrom most a t ≡ refused n p → (n < 100) × (p ≤ a + length t)) →
-        joined at rest (λ size. recordsFrom most (at + size) (drop size rest)) x ≡ refused n p → (n < 100) × (p ≤ at + length rest)
-    by step.Ends q f e = no-answer e
-    by (step.Fault r offset) q f e =
-        let a : numberOf r ≡ n = cc in
-        let b : at + offset ≡ p = cc in
-        (subst (λ (m : ℕ). m < 100) a (number-small r), omega (arith, fault-near rest r offset q))
-    by (step.Record size) q f e =
-        let h = f (at + size) (drop size rest) (refused-back (_∷_ (take size rest)) (recordsFrom most (at + size) (drop size rest)) e) in
-        (h .0, omega (arith, h .1, length-drop size rest, step-whole rest size q .2))
-
-pub fault-small : (s : List ℕ) (n p : ℕ) → outcome s ≡ refused n p → (n < 100) × (p < 10000)
-unfolding reads
-fault-small s n p o =
-    by-order (length s) 4096
-    (λ l. let h = records-fault (suc (length s)) 0 s n p (sym (outcome-short s l) ∙ o) in (h .0, omega (arith, h .1)))
-    (λ l.
-    let e = sym (outcome-long s l) ∙ o in
-    let a : 1 ≡ n = cc in
-    let b : 0 ≡ p = cc in
-    (omega arith, omega arith))
 
 -- ---- the report
 

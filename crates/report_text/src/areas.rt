@@ -11,6 +11,7 @@ pub enum Place {
     Full,
 }
 
+// A text that does not fit is left unfinished: in the end its area is cleared.
 pub(crate) fn put(area: &mut [u8], place: Place, text: &[u8]) -> Place
     ensures { λ r. ⌜ Writes (now (area .entry)) place (now (text .entry)) (now (area .exit)) r ⌝ }
 {

@@ -36,6 +36,7 @@ fn put_preimage(area: &mut [u8], place: Place, curve: Curve, p: Preimage) -> Pla
     ensures { λ r. ⌜ Writes (now (area .entry)) place (verdictText curve (verdicts.Pre p)) (now (area .exit)) r ⌝ }
 {
     let LengthAnswer::Length { c, a, b } = length_by(curve, p.square) else {
+        // A pre-image has a length.
         return place;
     };
     let length = put_labelled(area, place, b"pre c=", size(c));
@@ -52,6 +53,7 @@ fn put_verdict(area: &mut [u8], place: Place, curve: Curve) -> Place
         Verdict::No => put(area, place, b"no"),
         Verdict::Ph(s) => put_labelled(area, place, b"ph c=", size(s.c)),
         Verdict::Pre(p) => put_preimage(area, place, curve, p),
+        // A curve in range is not refused.
         Verdict::Refused(_) => place,
     }
 }
@@ -75,6 +77,7 @@ pub(crate) fn put_lines(area: &mut [u8], place: Place, sheet: &[u8], count: usiz
     let mut k: usize = 0;
     while k < count {
         let Reading::Points(curve) = read(sheet, k + 1) else {
+            // A number up to the count is not refused.
             return at;
         };
         k += 1;

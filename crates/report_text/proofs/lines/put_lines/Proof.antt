@@ -10,8 +10,8 @@ use Rattle.curve.specs.declared.Curve.{Curve}
 use Rattle.sheet.specs.declared.Reading.the-variants as reading
 use Rattle.sheet.specs.Promises.{Reads}
 use Rattle.report_text.specs.Steps.{WritesLines}
-use Rattle.report_text.proofs.Pieces.{writes-none}
-use Rattle.report_text.proofs.Readings.{read-in-range, read-listed, lines-more}
+use Rattle.report_text.proofs.Pieces.{writes-none, lines-more}
+use Rattle.report_text.proofs.OfSheet.{read-in-range, read-listed}
 use Rattle.report_text.proofs.lines.put_lines.Statement.{statement}
 use Rattle.report_text.proofs.lines.put_lines.Tie as tie
 
