@@ -20,7 +20,7 @@ use Rattle.sheet.specs.Promises.{Reads}
 use Rattle.report_text.specs.declared.areas.Place.{Place}
 use Rattle.report_text.specs.declared.areas.Place.the-variants.{At, Full}
 use Rattle.report_text.specs.Texts.{decimal, signed, lineText}
-use Rattle.report_text.specs.Steps.{Holds, Writes, WritesLine, WritesLines}
+use Rattle.report_text.specs.Steps.{Holds, Writes, WritesJudged, WritesLines}
 
 pub copied-more :
     (area text front : List ℕ) (at i : ℕ) → at < length area → i < length text → take at area ≡ front ++ take i text →
@@ -63,7 +63,7 @@ pub numbered :
 numbered label x {before} {after} {place} {next} e h w = subst (λ (z : ℤ). Writes before place (label ++ signed z) after next) (ap pos e ∙ sym (nonneg-is h)) w
 
 pub lines-more :
-    {a b d s : List ℕ} {p q r : Place} {c : Curve} (k : ℕ) → WritesLines a p s k b q → Reads s (suc k) (reading.Points c) → WritesLine b q (k + 1) c d r →
+    {a b d s : List ℕ} {p q r : Place} {c : Curve} (k : ℕ) → WritesLines a p s k b q → Reads s (suc k) (reading.Points c) → WritesJudged b q c (lineText (k + 1) c) d r →
     WritesLines a p s (k + 1) d r
 lines-more {a} {b} {d} {s} {p} {q} {r} {c} k w h l =
     let line = lineText (suc k) c (l .verdict) in

@@ -1,7 +1,8 @@
 -- What the functions inside the crate promise one another. No public contract speaks of it.
 --   Holds         an area holds a text up to a place, or is too short for it
 --   Writes        a text was written behind whatever was held before
---   WritesVerdict, WritesLine, WritesLines   the same, of a text that verdicts decide
+--   WritesJudged  the same, of a text that a curve's verdict decides
+--   WritesLines   the same, of the lines of the first curves
 --   HoldsReport   an area holds a sheet's report, or is too short for it
 use mathlib.Core.Path.{_≡_}
 use mathlib.Core.List.{List, _++_}
@@ -13,7 +14,6 @@ use Rattle.curve.specs.Curves.{pointsOf}
 use Rattle.curve.specs.Promise.{Recognised}
 use Rattle.report_text.specs.declared.areas.Place.{Place}
 use Rattle.report_text.specs.declared.areas.Place.the-variants.{At, Full}
-use Rattle.report_text.specs.Texts.{verdictText, lineText}
 use Rattle.report_text.specs.Reports.{Lines, Report}
 
 abbrev pub Holds : List ℕ → List ℕ → Place → Type 0
@@ -23,15 +23,10 @@ Holds area text Full = length area < length text
 pub record Writes (before : List ℕ) (place : Place) (text after : List ℕ) (next : Place) : Type 0 where
   pub then-holds : (held : List ℕ) → Holds before held place → Holds after (held ++ text) next
 
-pub record WritesVerdict (before : List ℕ) (place : Place) (curve : Curve) (after : List ℕ) (next : Place) : Type 0 where
+pub record WritesJudged (before : List ℕ) (place : Place) (curve : Curve) (text : Verdict → List ℕ) (after : List ℕ) (next : Place) : Type 0 where
   pub verdict : Verdict
   pub recognised : Recognised (pointsOf curve) verdict
-  pub writes : Writes before place (verdictText curve verdict) after next
-
-pub record WritesLine (before : List ℕ) (place : Place) (number : ℕ) (curve : Curve) (after : List ℕ) (next : Place) : Type 0 where
-  pub verdict : Verdict
-  pub recognised : Recognised (pointsOf curve) verdict
-  pub writes : Writes before place (lineText number curve verdict) after next
+  pub writes : Writes before place (text verdict) after next
 
 pub record WritesLines (before : List ℕ) (place : Place) (s : List ℕ) (count : ℕ) (after : List ℕ) (next : Place) : Type 0 where
   pub lines : List ℕ

@@ -1,13 +1,13 @@
 -- The text of a report, as bytes: 01, "The report".
---   bytes        a text's bytes
---   decimal      a number in decimal digits
---   signed       a whole number, with a minus sign where it is below 0
---   labelled     a whole number behind its label
---   firstLine    the first line of a sound sheet's report
---   verdictText  a verdict with its numbers
---   kindText     a curve's kind
---   lineText     the line of a curve
---   refusedLine  the one line of a faulty sheet's report
+--   codes, bytes        the characters of a text as bytes
+--   digitsOf, decimal   a number in decimal digits
+--   signed              a whole number, with a minus sign where it is below 0
+--   labelled            a whole number behind its label
+--   firstLine           the first line of a sound sheet's report
+--   verdictText         a verdict with its numbers
+--   kindText            a curve's kind, between blanks
+--   lineText            the line of a curve
+--   refusedLine         the one line of a faulty sheet's report
 use mathlib.Core.List.{List, [], _∷_, _++_}
 use Prim.Native.Nat.{ℕ, zero, suc, _+_, _/_, _%_}
 use Prim.Native.Char.{code}

@@ -5,8 +5,8 @@ ghost use Rattle.curve.specs.declared.Verdict.the-variants as verdicts;
 ghost use Rattle.curve.specs.Curves.{pointsOf, InRange, legPolynomial};
 ghost use Rattle.curve.specs.Verdicts.{PreimageOf};
 ghost use Rattle.sheet.specs.Sheets.{given, with-given, outcome};
-ghost use Rattle.report_text.specs.Texts.{kindText, verdictText};
-ghost use Rattle.report_text.specs.Steps.{Writes, WritesVerdict, WritesLine, WritesLines};
+ghost use Rattle.report_text.specs.Texts.{kindText, verdictText, lineText};
+ghost use Rattle.report_text.specs.Steps.{Writes, WritesJudged, WritesLines};
 use crate::areas::Place;
 use crate::areas::put;
 use crate::areas::put_labelled;
@@ -46,7 +46,7 @@ fn put_preimage(area: &mut [u8], place: Place, curve: Curve, p: Preimage) -> Pla
 
 fn put_verdict(area: &mut [u8], place: Place, curve: Curve) -> Place
     requires { ⌜ InRange (pointsOf curve) ⌝ }
-    ensures { λ r. ⌜ WritesVerdict (now (area .entry)) place curve (now (area .exit)) r ⌝ }
+    ensures { λ r. ⌜ WritesJudged (now (area .entry)) place curve (verdictText curve) (now (area .exit)) r ⌝ }
 {
     match recognise(curve) {
         Verdict::Still => put(area, place, b"still"),
@@ -60,7 +60,7 @@ fn put_verdict(area: &mut [u8], place: Place, curve: Curve) -> Place
 
 fn put_line(area: &mut [u8], place: Place, number: usize, curve: Curve) -> Place
     requires { ⌜ InRange (pointsOf curve) ⌝ }
-    ensures { λ r. ⌜ WritesLine (now (area .entry)) place number curve (now (area .exit)) r ⌝ }
+    ensures { λ r. ⌜ WritesJudged (now (area .entry)) place curve (lineText number curve) (now (area .exit)) r ⌝ }
 {
     let digits = put_number(area, place, number as u64);
     let kind = put_kind(area, digits, curve);
