@@ -1,0 +1,153 @@
+-- From what is known of a curve or of a join to the promises that a row of the table names.
+--   spread                 the sizes of all coordinates, added up: where that is small, every coordinate is in range
+--   no-row, ph-row, pre-row     a row of each verdict
+--   measured, long, turned, offset      the claims on a curve with a pre-image
+--   joins-row              a row of joins
+use mathlib.Core.Path.{_≡_, refl, sym, ap, _∙_, subst}
+use mathlib.Core.Bool.{false}
+use mathlib.Core.List.{List, [], _∷_, _++_}
+use mathlib.Core.Logic.{_≢_, inl, inr, ⊎-elim}
+use Prim.Native.Nat.{ℕ, _+_, _-_, _*_, _≤_, _<_}
+use native.Mathlib.Omega.{arith}
+use lib.IntN.{ℤ, pos, natAbs, _*ℤ_, zero-*ℤ}
+use lib.ListN.{length, replicate, length-append, length-replicate}
+use Rattle.refusal.specs.Table.{Cause, First}
+use Rattle.whole.specs.Poly.{scaled, product}
+use Rattle.whole.specs.Area.{Fills}
+use Rattle.whole.specs.Number.{wholes, Within}
+use Rattle.whole.proofs.Linear.{linear}
+use Rattle.poly.specs.Terms.{value}
+use Rattle.pair.specs.declared.Pair.{Pair}
+use Rattle.pair.specs.Pairs.{pairs, times, norm}
+use Rattle.pair.proofs.Parts.{wider}
+use Rattle.root.specs.Roots.{quartic}
+use Rattle.curve.specs.declared.Curve.{Curve}
+use Rattle.curve.specs.declared.Square.{Square}
+use Rattle.curve.specs.declared.Preimage.{Preimage}
+use Rattle.curve.specs.declared.Verdict.{Verdict}
+use Rattle.curve.specs.declared.Verdict.the-variants as verdict
+use Rattle.curve.specs.declared.PreimageAnswer.the-variants.{Found}
+use Rattle.curve.specs.Curves.{InRange, pointsOf, legPolynomial, squaredLength}
+use Rattle.curve.specs.Verdicts.{Still, NotSquared, SquareOf, PreimageOf, Holds}
+use Rattle.curve.specs.Promise.{out-of-range, still, not-ph, no-preimage, Recognised, Preimaged}
+use Rattle.curve.proofs.Lengths.{squaredLength-zero}
+use Rattle.curve.proofs.Known.{holds-number}
+use Rattle.curve.proofs.Refusals.{recognised-preimage}
+use Rattle.measure.specs.declared.Turning.{Turning}
+use Rattle.measure.specs.declared.LengthAnswer.the-variants.{Length}
+use Rattle.measure.specs.declared.InflectionAnswer.the-variants.{Inflections}
+use Rattle.measure.specs.Lengths.{lengthA, lengthB}
+use Rattle.measure.specs.Turns.{turningOf, Straight, CountIs}
+use Rattle.measure.specs.Promises.{Measured, Inflected}
+use Rattle.offset.specs.declared.OffsetAnswer.the-variants.{Written}
+use Rattle.offset.specs.Offsets.{offsetCurve, offsetNumbers, needs, beyond, no-root, no-room, OffsetBy}
+use Rattle.offset.proofs.Causes.{first-after}
+use Rattle.join.specs.Listing as join
+use Rattle.cases.specs.Rows.{Claim, SaysAll, CurveHolds, Long, JoinsHold, filled}
+use Rattle.cases.proofs.Certificates.{Between, not-squared, not-generated}
+
+-- ---- verdicts
+abbrev pub spread : List Pair → ℕ
+spread [] = 0
+spread (p ∷ ps) = natAbs (p .re) + natAbs (p .im) + spread ps
+
+in-range : (ps : List Pair) → spread ps ≤ 20000 → InRange ps
+in-range [] h = tt
+in-range (p ∷ ps) h = (record { re = record { size = omega arith }; im = record { size = omega arith } }, in-range ps (omega arith))
+
+recognised : (ps : List Pair) (v : Verdict) → spread ps ≤ 20000 → Holds (legPolynomial ps) v → Recognised ps v
+recognised ps v h k = record { refusal = inr (λ out. out (in-range ps h), holds-number (legPolynomial ps) v k); verdict = λ e. k }
+
+not-squared-moves : (D : List Pair) → NotSquared D → Still D → ⊥
+unfolding scaled product
+not-squared-moves D n z = n (pos 1) [] (omega linear) (squaredLength-zero D .0 z)
+
+square-moves : (D : List Pair) (s : Square) → SquareOf D s → Still D → ⊥
+square-moves D s h z =
+    let d = h .content .greatest (pos 0) (λ k. record { factor = pos 0; is = sym (squaredLength-zero D .0 z k) }) in
+    omega (linear, h .positive, sym (zero-*ℤ (d .factor)) ∙ d .is)
+
+abbrev D : Curve → List Pair
+D curve = legPolynomial (pointsOf curve)
+
+module _ {curve : Curve} {claims : List Claim} (small : spread (pointsOf curve) ≤ 20000) where
+  pub no-row : (x y : ℤ) → Between (value wholes x (squaredLength (D curve)) *ℤ value wholes y (squaredLength (D curve)))
+      → SaysAll curve claims → CurveHolds curve verdict.No claims
+  no-row x y b f =
+      let h = not-squared (D curve) x y b in
+      record { recognised = recognised (pointsOf curve) verdict.No small (not-squared-moves (D curve) h, h); said = f }
+
+  pub ph-row : {s : Square} → SquareOf (D curve) s → (x y : Pair) → Between (norm (times (value pairs x (D curve)) (value pairs y (D curve))))
+      → SaysAll curve claims → CurveHolds curve (verdict.Ph s) claims
+  ph-row {s} h x y b f = record {
+    recognised = recognised (pointsOf curve) (verdict.Ph s) small (square-moves (D curve) s h, h, not-generated (D curve) x y b);
+    said = f;
+  }
+
+  pub pre-row : {p : Preimage} → PreimageOf (D curve) p → (Preimaged (pointsOf curve) (Found p) → SaysAll curve claims) → CurveHolds curve (verdict.Pre p) claims
+  pre-row {p} h f =
+      let r = recognised (pointsOf curve) (verdict.Pre p) small (square-moves (D curve) (p .square) (h .square-of), h) in
+      record { recognised = r; said = f (recognised-preimage (pointsOf curve) (verdict.Pre p) r) }
+
+-- ---- areas
+filled-length : (room : ℕ) (vs : List ℤ) → length vs ≤ room → length (filled room vs) ≡ room
+filled-length room vs h = omega (arith, length-append vs (replicate (room - length vs) (pos 0)), length-replicate (room - length vs) (pos 0))
+
+filled-fills : (room : ℕ) (vs : List ℤ) → length vs ≤ room → Fills vs (filled room vs)
+filled-fills room vs h = ap (λ n. vs ++ replicate (n - length vs) (pos 0)) (sym (filled-length room vs h))
+
+-- ---- claims on a curve with a pre-image
+-- why a curve in range has none
+abbrev no-way : List Pair → List Cause
+no-way ps = still ps ∷ not-ph ps ∷ no-preimage ps ∷ []
+
+module _ {curve : Curve} {p : Preimage} (i : Preimaged (pointsOf curve) (Found p)) where
+  pub measured : {c a b : ℤ} → c ∷ a ∷ b ∷ [] ≡ p .square .c ∷ lengthA curve (p .square .q) ∷ lengthB curve ∷ [] → Measured curve (Length c a b)
+  measured e = record { refusal = i .refusal; values = λ z. (p, i .preimage refl, e) }
+
+  pub long : {whole : ℕ} → p .square .c *ℤ (lengthA curve (p .square .q) *ℤ lengthA curve (p .square .q)) ≡ pos (whole * whole) *ℤ (lengthB curve *ℤ lengthB curve) → Long curve whole
+  long e = record { c = p .square .c; a = lengthA curve (p .square .q); b = lengthB curve; measured = measured refl; is = e }
+
+  pub turned : {x : Turning} {k : ℕ} → x ≡ turningOf (p .w) → CountIs x k → (Straight x → ⊥) → Inflected curve (Inflections x k false)
+  turned e n s = record { refusal = i .refusal; values = λ z. (p, i .preimage refl, (e, n, s)) }
+
+  pub offset : {h : ℤ} {vs : List ℤ} (m : ℕ) → p .square .c ≡ pos (m * m) → Within 20000 h
+      → offsetNumbers curve (offsetCurve (pointsOf curve) (scaled wholes (pos m) (quartic (p .square .q))) h) ≡ vs → length vs ≡ needs curve
+      → (area : List ℤ) → needs curve ≤ length area → OffsetBy curve h area (filled (length area) vs) Written
+  offset {h} {vs} m root w e l area room = record {
+    refusal = none (i .refusal);
+    same-room = filled-length (length area) vs (omega arith);
+    cleared = λ n. absurd (n refl);
+    written = λ z. record {
+      preimage = p;
+      is-preimage = i .preimage refl;
+      m = m;
+      root = root;
+      fills = subst (λ ns. Fills ns (filled (length area) vs)) (sym e) (filled-fills (length area) vs (omega arith));
+    };
+  }
+    where
+      none : First (out-of-range (pointsOf curve) ∷ no-way (pointsOf curve)) 0
+          → First (beyond curve h ∷ no-way (pointsOf curve) ++ no-root (pointsOf curve) ∷ no-room curve (length area) ∷ []) 0
+      none (inl out) = absurd (omega (arith, out .1))
+      none (inr (inside, f)) =
+          inr (λ out. inside (λ r. out (r, w)), first-after (no-way (pointsOf curve)) (no-root (pointsOf curve) ∷ no-room curve (length area) ∷ []) 0 f (inr (λ n. n p m (i .preimage refl) root, inr (λ less. omega arith, refl))))
+
+-- ---- joins
+pub joins-row : {a z T : Pair} {ws : List join.Triple} → spread (a ∷ z ∷ T ∷ []) ≤ 20000 → 0 < spread (a ∷ []) → 0 < spread (z ∷ []) → length (join.numbers ws) ≤ 24
+    → join.AllJoins a z T ws → JoinsHold a z T ws
+joins-row {a} {z} {T} {ws} small first last few h = record {
+  all = h;
+  answer = λ room n. record {
+    refusal = inr (λ out. out range, inr (⊎-elim (some a first) (some z last), inr (λ less. omega arith, refl)));
+    same-room = filled-length room (join.numbers ws) (omega arith);
+    cleared = λ f. absurd (f refl);
+    listed = λ e. record { triples = ws; all = h; counted = refl; filled = filled-fills room (join.numbers ws) (omega arith) };
+  };
+}
+  where
+    some : (p : Pair) → 0 < spread (p ∷ []) → p ≢ pairs .none
+    some p l e = omega (arith, l, ap (λ t. spread (t ∷ [])) e)
+
+    range : join.InRange a z T
+    range = let (i, (j, (k, e))) = in-range (a ∷ z ∷ T ∷ []) small in record { first = i; last = j; travel = wider (omega arith) k }

@@ -1,0 +1,84 @@
+-- What a row of the table is, and what it is that holds of it: the promises of the calls, with the answers that the row gives.
+--   Claim                    what a row says of a curve beside its verdict:
+--     legs-are                 its legs
+--     N-is                     N, by its coefficients
+--     length-is                c, A and B of the length √c·A/B
+--     long                     that the length is a whole number
+--     turning-is               the coefficients of the turning polynomial, which is not zero throughout, and the count of inflections
+--     offset-is                W, X and Y of point k of the offset at h
+--   Row                      a curve with its verdict and claims, or two legs and a travel with the triples that join them
+--   filled                   an area of some room with an answer from its start and zeros behind it
+--   Long                     a length √c·A/B is promised that is the whole number
+--   Says, SaysAll            that a claim on a curve holds, and all of a list
+--   CurveHolds               the verdict is the one that `recognise` promises, and the claims hold
+--   JoinsHold                the triples are all joins, and `joins` promises them in every area that has the room
+--   Holds, All               that a row holds, and all of a list
+use mathlib.Core.Path.{_≡_}
+use mathlib.Core.Bool.{false}
+use mathlib.Core.List.{List, [], _∷_, _++_}
+use Prim.Native.Nat.{ℕ, suc, _-_, _*_, _≤_}
+use lib.IntN.{ℤ, pos, _*ℤ_}
+use lib.ListN.{length, replicate}
+use Rattle.pair.specs.declared.Pair.{Pair}
+use Rattle.curve.specs.declared.Curve.{Curve}
+use Rattle.curve.specs.declared.Verdict.{Verdict}
+use Rattle.curve.specs.Curves.{pointsOf, differences, legPolynomial, squaredLength}
+use Rattle.curve.specs.Promise.{Recognised}
+use Rattle.measure.specs.declared.LengthAnswer.the-variants.{Length}
+use Rattle.measure.specs.declared.InflectionAnswer.the-variants.{Inflections}
+use Rattle.measure.specs.Promises.{Measured, Inflected}
+use Rattle.offset.specs.declared.OffsetAnswer.the-variants.{Written}
+use Rattle.offset.specs.Offsets.{numbersOf, degreeOf, needs, OffsetBy}
+use Rattle.join.specs.declared.JoinAnswer.the-variants.{Listed}
+use Rattle.join.specs.Listing.{Triple, AllJoins, numbers, Joined}
+
+pub data Claim : Type 0 where
+  legs-are : List Pair → Claim
+  N-is : List ℤ → Claim
+  length-is : (c a b : ℤ) → Claim
+  long : (whole : ℕ) → Claim
+  turning-is : (t0 t1 t2 : ℤ) (count : ℕ) → Claim
+  offset-is : (h : ℤ) (w x y : ℕ → ℤ) → Claim
+
+pub data Row : Type 0 where
+  curve-is : Curve → Verdict → List Claim → Row
+  joins-are : (a z T : Pair) → List Triple → Row
+
+abbrev pub filled : ℕ → List ℤ → List ℤ
+filled room answer = answer ++ replicate (room - length answer) (pos 0)
+
+pub record Long (curve : Curve) (whole : ℕ) : Type 0 where
+  pub c : ℤ
+  pub a : ℤ
+  pub b : ℤ
+  pub measured : Measured curve (Length c a b)
+  pub is : c *ℤ (a *ℤ a) ≡ pos (whole * whole) *ℤ (b *ℤ b)
+
+abbrev pub Says : Curve → Claim → Type 0
+Says curve (legs-are ds) = differences (pointsOf curve) ≡ ds
+Says curve (N-is n) = squaredLength (legPolynomial (pointsOf curve)) ≡ n
+Says curve (length-is c a b) = Measured curve (Length c a b)
+Says curve (long whole) = Long curve whole
+Says curve (turning-is t0 t1 t2 count) = Inflected curve (Inflections (record { t0 = t0; t1 = t1; t2 = t2 }) count false)
+Says curve (offset-is h w x y) =
+    (area : List ℤ) → needs curve ≤ length area → OffsetBy curve h area (filled (length area) (numbersOf (suc (degreeOf curve)) w x y)) Written
+
+abbrev pub SaysAll : Curve → List Claim → Type 0
+SaysAll curve [] = Unit {0}
+SaysAll curve (claim ∷ claims) = Says curve claim × SaysAll curve claims
+
+pub record CurveHolds (curve : Curve) (v : Verdict) (claims : List Claim) : Type 0 where
+  pub recognised : Recognised (pointsOf curve) v
+  pub said : SaysAll curve claims
+
+pub record JoinsHold (a z T : Pair) (ws : List Triple) : Type 0 where
+  pub all : AllJoins a z T ws
+  pub answer : (room : ℕ) → 24 ≤ room → Joined a z T room (filled room (numbers ws)) (Listed (length ws))
+
+abbrev pub Holds : Row → Type 0
+Holds (curve-is curve v claims) = CurveHolds curve v claims
+Holds (joins-are a z T ws) = JoinsHold a z T ws
+
+abbrev pub All : List Row → Type 0
+All [] = Unit {0}
+All (row ∷ rows) = Holds row × All rows
