@@ -3,19 +3,18 @@
 --   no-row, ph-row, pre-row     a row of each verdict
 --   measured, long, turned, offset      the claims on a curve with a pre-image
 --   joins-row              a row of joins
-use mathlib.Core.Path.{_≡_, refl, sym, ap, _∙_, subst}
+use mathlib.Core.Path.{_≡_, refl, sym, ap, subst}
 use mathlib.Core.Bool.{false}
 use mathlib.Core.List.{List, [], _∷_, _++_}
 use mathlib.Core.Logic.{_≢_, inl, inr, ⊎-elim}
-use Prim.Native.Nat.{ℕ, _+_, _-_, _*_, _≤_, _<_}
+use Prim.Native.Nat.{ℕ, _+_, _*_, _≤_, _<_}
 use native.Mathlib.Omega.{arith}
-use lib.IntN.{ℤ, pos, natAbs, _*ℤ_, zero-*ℤ}
-use lib.ListN.{length, replicate, length-append, length-replicate}
+use lib.IntN.{ℤ, pos, natAbs, _*ℤ_}
+use lib.ListN.{length}
 use Rattle.refusal.specs.Table.{Cause, First}
-use Rattle.whole.specs.Poly.{scaled, product}
+use Rattle.whole.specs.Poly.{scaled}
 use Rattle.whole.specs.Area.{Fills}
 use Rattle.whole.specs.Number.{wholes, Within}
-use Rattle.whole.proofs.Linear.{linear}
 use Rattle.poly.specs.Terms.{value}
 use Rattle.pair.specs.declared.Pair.{Pair}
 use Rattle.pair.specs.Pairs.{pairs, times, norm}
@@ -28,9 +27,8 @@ use Rattle.curve.specs.declared.Verdict.{Verdict}
 use Rattle.curve.specs.declared.Verdict.the-variants as verdict
 use Rattle.curve.specs.declared.PreimageAnswer.the-variants.{Found}
 use Rattle.curve.specs.Curves.{InRange, pointsOf, legPolynomial, squaredLength}
-use Rattle.curve.specs.Verdicts.{Still, NotSquared, SquareOf, PreimageOf, Holds}
+use Rattle.curve.specs.Verdicts.{SquareOf, PreimageOf, Holds}
 use Rattle.curve.specs.Promise.{out-of-range, still, not-ph, no-preimage, Recognised, Preimaged}
-use Rattle.curve.proofs.Lengths.{squaredLength-zero}
 use Rattle.curve.proofs.Known.{holds-number}
 use Rattle.curve.proofs.Refusals.{recognised-preimage}
 use Rattle.measure.specs.declared.Turning.{Turning}
@@ -44,7 +42,8 @@ use Rattle.offset.specs.Offsets.{offsetCurve, offsetNumbers, needs, beyond, no-
 use Rattle.offset.proofs.Causes.{first-after}
 use Rattle.join.specs.Listing as join
 use Rattle.cases.specs.Rows.{Claim, SaysAll, CurveHolds, Long, JoinsHold, filled}
-use Rattle.cases.proofs.Certificates.{Between, not-squared, not-generated}
+use Rattle.cases.proofs.Lower.{Between, filled-length, filled-fills, not-squared-moves, square-moves}
+use Rattle.cases.proofs.Certificates.{not-squared, not-generated}
 
 -- ---- verdicts
 abbrev pub spread : List Pair → ℕ
@@ -57,15 +56,6 @@ in-range (p ∷ ps) h = (record { re = record { size = omega arith }; im = recor
 
 recognised : (ps : List Pair) (v : Verdict) → spread ps ≤ 20000 → Holds (legPolynomial ps) v → Recognised ps v
 recognised ps v h k = record { refusal = inr (λ out. out (in-range ps h), holds-number (legPolynomial ps) v k); verdict = λ e. k }
-
-not-squared-moves : (D : List Pair) → NotSquared D → Still D → ⊥
-unfolding scaled product
-not-squared-moves D n z = n (pos 1) [] (omega linear) (squaredLength-zero D .0 z)
-
-square-moves : (D : List Pair) (s : Square) → SquareOf D s → Still D → ⊥
-square-moves D s h z =
-    let d = h .content .greatest (pos 0) (λ k. record { factor = pos 0; is = sym (squaredLength-zero D .0 z k) }) in
-    omega (linear, h .positive, sym (zero-*ℤ (d .factor)) ∙ d .is)
 
 abbrev D : Curve → List Pair
 D curve = legPolynomial (pointsOf curve)
@@ -88,13 +78,6 @@ module _ {curve : Curve} {claims : List Claim} (small : spread (pointsOf curve) 
   pre-row {p} h f =
       let r = recognised (pointsOf curve) (verdict.Pre p) small (square-moves (D curve) (p .square) (h .square-of), h) in
       record { recognised = r; said = f (recognised-preimage (pointsOf curve) (verdict.Pre p) r) }
-
--- ---- areas
-filled-length : (room : ℕ) (vs : List ℤ) → length vs ≤ room → length (filled room vs) ≡ room
-filled-length room vs h = omega (arith, length-append vs (replicate (room - length vs) (pos 0)), length-replicate (room - length vs) (pos 0))
-
-filled-fills : (room : ℕ) (vs : List ℤ) → length vs ≤ room → Fills vs (filled room vs)
-filled-fills room vs h = ap (λ n. vs ++ replicate (n - length vs) (pos 0)) (sym (filled-length room vs h))
 
 -- ---- claims on a curve with a pre-image
 -- why a curve in range has none

@@ -1,4 +1,5 @@
--- The starred cases hold: `table-holds` is the one statement over the table. Each row is a certificate, and the rest is computed.
+-- The starred cases hold. Each row is a certificate (Certificates.antt says of what), and the rest is computed.
+--   table-holds     the one statement over the table
 use mathlib.Core.Path.{refl}
 use mathlib.Core.Logic.{inl, inr}
 use native.Mathlib.Omega.{arith}
@@ -52,7 +53,7 @@ row-5 =
 row-6 : Holds case-6
 unfolding squaredLength legPolynomial powerForm powers differences choose sum scaled product
 row-6 =
-    pre-row (omega arith) (preimage-by 0 0 refl refl (inl (omega linear)) (lead-at pairs 2 0 refl (inr (refl, (omega linear)))) refl refl)
+    pre-row (omega arith) (preimage-by 0 0 refl refl (inl (omega linear)) (lead-at pairs 2 0 refl (inr (refl, omega linear))) refl refl)
     (λ i. (measured i refl, (long i refl, (turned i refl (count-apart _ (omega linear)) (λ s. omega (linear, s .0)), tt))))
 
 row-7 : Holds case-7

@@ -1,4 +1,5 @@
--- What a row of the table is, and what it is that holds of it: the promises of the calls, with the answers that the row gives.
+-- What a row of the table is, and what it is that holds of it: the promises of the calls, with the answers that the row gives. Each promise
+-- has one answer, so a row says what the calls answer.
 --   Claim                    what a row says of a curve beside its verdict:
 --     legs-are                 its legs
 --     N-is                     N, by its coefficients
