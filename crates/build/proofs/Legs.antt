@@ -1,35 +1,43 @@
 -- The legs of a source, and the points that go by them.
---   third-once, legs-once     a pair has one third, and a source has one list of legs
+--   legs-once                 a source has one list of legs
 --   outside                   where their points are out of range, that cause holds
+--   legs-squared              from Bernstein to power coefficients, the legs are the square of the w's
 --   third-found               a third of t shows that 3 divides both parts of t
 --   points-on, points-end     one point more, and no more
 use mathlib.Core.Path.{_≡_, refl, sym, ap, _∙_, subst}
 use mathlib.Core.List.{List, [], _∷_}
 use mathlib.Core.Logic.{inl, inr}
+use native.Mathlib.Omega.{arith}
 use lib.IntN.{pos}
-use Rattle.whole.proofs.Wholes.{*ℤ-cancel}
-use Rattle.whole.proofs.Linear.{linear}
+use Rattle.whole.specs.Poly.{Same, square}
 use Rattle.pair.specs.declared.Pair.{Pair}
-use Rattle.pair.specs.Pairs.{plus, times, multiple}
-use Rattle.pair.proofs.Parts.{pair-equal}
-use Rattle.curve.specs.Curves.{InRange}
-use Rattle.build.specs.Builds.{Source, cubic, quintic, Legs, NoThird, points, point-out-of-range}
-
-third-once : {d e : Pair} → multiple (pos 3) d ≡ multiple (pos 3) e → d ≡ e
-third-once h = pair-equal (*ℤ-cancel (pos 3) (λ z. omega linear) (ap (λ p. p .re) h)) (*ℤ-cancel (pos 3) (λ z. omega linear) (ap (λ p. p .im) h))
+use Rattle.pair.specs.Pairs.{pairs, plus, times, multiple}
+use Rattle.pair.proofs.Parts.{re-equal, im-equal}
+use Rattle.pair.proofs.Laws.{multiple-cancel}
+use Rattle.curve.specs.Curves.{InRange, powerForm}
+use Rattle.curve.proofs.SquaredLegs.{cubic-legs, quintic-legs}
+use Rattle.build.specs.Builds.{Source, cubic, quintic, given, Legs, NoThird, points, point-out-of-range}
 
 pub legs-once : (s : Source) (ds es : List Pair) → Legs s ds → Legs s es → ds ≡ es
 legs-once (cubic w0 w1) ds es h k = h ∙ sym k
 legs-once (quintic w0 w1 w2) ds es (d, t, h) (e, u, k) =
-    h ∙ ap (λ m. times w0 w0 ∷ times w0 w1 ∷ m ∷ times w1 w2 ∷ times w2 w2 ∷ []) (third-once (t ∙ sym u)) ∙ sym k
+    h ∙ ap (λ m. times w0 w0 ∷ times w0 w1 ∷ m ∷ times w1 w2 ∷ times w2 w2 ∷ []) (multiple-cancel 3 (omega arith) (t ∙ sym u)) ∙ sym k
 
 -- where the points of one list of legs are not in range, those of none are
 pub outside : (p0 : Pair) (s : Source) (ds : List Pair) → Legs s ds → (InRange (points p0 ds) → ⊥) → point-out-of-range p0 s .holds
 outside p0 s ds l n es k i = n (subst (λ xs. InRange (points p0 xs)) (legs-once s es ds k l) i)
 
+pub legs-squared : (s : Source) (ds : List Pair) → Legs s ds → Same pairs (powerForm ds) (square pairs (powerForm (given s)))
+legs-squared (cubic w0 w1) ds h = rw h (cubic-legs w0 w1)
+legs-squared (quintic w0 w1 w2) ds (d, t, h) =
+    let three = multiple (pos 3) in
+    rw h
+    (quintic-legs w0 w1 w2 (times w0 w0) (times w0 w1) d (times w1 w2) (times w2 w2) .1
+    (λ i. three (times w0 w0) ∷ three (times w0 w1) ∷ t i ∷ three (times w1 w2) ∷ three (times w2 w2) ∷ []))
+
 pub third-found : (d : Pair) {t : Pair} → multiple (pos 3) d ≡ t → NoThird t → ⊥
-third-found d e (inl n) = n (record { factor = d .re; is = ap (λ p. p .re) e })
-third-found d e (inr n) = n (record { factor = d .im; is = ap (λ p. p .im) e })
+third-found d e (inl n) = n (record { factor = d .re; is = re-equal e })
+third-found d e (inr n) = n (record { factor = d .im; is = im-equal e })
 
 pub points-on : {p q : Pair} {ps : List Pair} (d : Pair) (ds : List Pair) → q ≡ plus p d → ps ≡ points q ds → p ∷ ps ≡ points p (d ∷ ds)
 unfolding points

@@ -4,10 +4,10 @@ use mathlib.Core.Path.{_≡_, refl, sym, ap, _∙_}
 use native.Mathlib.Omega.{arith}
 use Rattle.refusal.proofs.Laws.{number-positive, number-once, first-once}
 use Rattle.pair.specs.declared.Pair.{Pair}
+use Rattle.curve.proofs.Points.{curve-once}
 use Rattle.build.specs.declared.BuildAnswer.{BuildAnswer}
 use Rattle.build.specs.declared.BuildAnswer.the-variants as answer
 use Rattle.build.specs.Builds.{Source, points, causes, numberOfBuilt, Built}
-use Rattle.build.proofs.Lower.{curve-once}
 use Rattle.build.proofs.Legs.{legs-once}
 
 module _ (p0 : Pair) (s : Source) where

@@ -4,13 +4,14 @@ use mathlib.Core.Path.{_≡_, refl, sym, ap, _∙_, subst}
 use mathlib.Core.List.{List, [], _∷_}
 use mathlib.Core.Logic.{inl, inr, ⊎-elim}
 use Rattle.refusal.specs.Table.{First}
+use Rattle.refusal.proofs.Laws.{NoneHolds, first-none}
 use Rattle.whole.specs.Poly.{Same, scaled, square}
 use Rattle.whole.proofs.Linear.{linear}
 use Rattle.poly.proofs.Lists.{scaled-one}
 use Rattle.poly.proofs.Domain.{product-zero}
 use Rattle.pair.specs.declared.Pair.{Pair}
 use Rattle.pair.specs.Pairs.{pairs, plus, norm, one}
-use Rattle.pair.proofs.Laws.{pairs-ring, pairs-domain}
+use Rattle.pair.proofs.Laws.{pairs-ring, pairs-domain, plus-minus}
 use Rattle.root.specs.Pairs.{quadratic}
 use Rattle.curve.specs.declared.Curve.{Curve}
 use Rattle.curve.specs.declared.Preimage.{Preimage}
@@ -23,9 +24,7 @@ use Rattle.curve.proofs.Lengths.{generated-squared}
 use Rattle.curve.proofs.Points.{still-legs}
 use Rattle.build.specs.declared.BuildAnswer.the-variants as answer
 use Rattle.build.specs.Builds.{Source, given, Legs, points, AllZero, causes, Built}
-use Rattle.build.proofs.Lower.{NoneHolds, first-none, plus-minus}
-use Rattle.build.proofs.Legs.{outside}
-use Rattle.build.proofs.Squares.{legs-squared}
+use Rattle.build.proofs.Legs.{outside, legs-squared}
 
 -- ---- the legs of the points are the legs
 points-legs : (p : Pair) (ds : List Pair) → differences (points p ds) ≡ ds

@@ -9,7 +9,7 @@
 use mathlib.Core.Path.{_≡_, refl, sym, ap, _∙_}
 use mathlib.Core.List.{List}
 use mathlib.Core.Logic.{_≢_}
-use lib.IntN.{pos, negsuc, negℤ-negℤ, negℤ}
+use lib.IntN.{pos, negsuc, negℤ}
 use Rattle.whole.specs.Poly.{at, Same, Greatest, scaled, square}
 use Rattle.whole.proofs.Ring.{minus-one}
 use Rattle.poly.specs.Terms.{Primitive}
@@ -18,15 +18,12 @@ use Rattle.poly.proofs.Content.{quotient-primitive, primitive-same, primitive-s
 use Rattle.poly.proofs.Squares.{UnitSquare, square-quotient, square-multiple}
 use Rattle.pair.specs.declared.Pair.{Pair}
 use Rattle.pair.specs.Pairs.{pair, pairs, times, negative, norm, imaginary, AllWithin}
-use Rattle.pair.proofs.Parts.{pair-equal, turned-parts}
-use Rattle.pair.proofs.Laws.{pairs-ring, pairs-domain}
+use Rattle.pair.proofs.Parts.{turned-parts}
+use Rattle.pair.proofs.Laws.{pairs-ring, pairs-domain, negative-twice}
 use Rattle.pair.proofs.Euclid.{pairs-bezout}
 use Rattle.pair.proofs.Units.{norm-unit}
 use Rattle.curve.specs.Verdicts.{Generated, NotGenerated, Coprime}
 use Rattle.curve.proofs.Coprime.{by-unit, primitive-coprime}
-
-negative-twice : (a : Pair) → negative (negative a) ≡ a
-negative-twice a = pair-equal (negℤ-negℤ (a .re)) (negℤ-negℤ (a .im))
 
 pub opposite-opposite : (a : Pair) → times (negative a) (pair (negsuc 0) (pos 0)) ≡ a
 opposite-opposite a = pairs-ring .times-comm (negative a) (pair (negsuc 0) (pos 0)) ∙ minus-one pairs-ring (negative a) ∙ negative-twice a

@@ -14,8 +14,7 @@ use native.Mathlib.Omega.{arith}
 use lib.IntN.{ℤ, pos, _-ℤ_, _*ℤ_, zero-*ℤ}
 use lib.ListN.{length}
 use Rattle.whole.specs.Poly.{at, choose}
-use Rattle.whole.proofs.Wholes.{wholes-ring, readℤ}
-use Rattle.whole.proofs.Bound.{done, _▸_, bounds, within}
+use Rattle.whole.proofs.Wholes.{wholes-ring}
 use Rattle.poly.specs.Terms.{Above}
 use Rattle.poly.proofs.Series.{Series}
 use Rattle.poly.proofs.Top.{length-above}
@@ -23,7 +22,7 @@ use Rattle.poly.proofs.Binomials.{choose-above}
 use Rattle.poly.proofs.Blends.{step, step-difference, steps, inPowers}
 use Rattle.pair.specs.declared.Pair.{Pair}
 use Rattle.pair.specs.Pairs.{pairs, minus, multiple, PartsWithin}
-use Rattle.pair.proofs.Parts.{zero-within}
+use Rattle.pair.proofs.Parts.{zero-within, minus-within}
 use Rattle.curve.specs.declared.Curve.{Curve}
 use Rattle.curve.specs.declared.Curve.the-variants.{Cubic, Quintic}
 use Rattle.curve.specs.Curves.{pointsOf, InRange, differences, powers, powerForm, legPolynomial}
@@ -109,15 +108,9 @@ module _ {part : Pair → ℤ} (P : Part part) where
       ∙ ap (λ m. inPowers wholes-ring m (λ i. part (at pairs (differences ps) i)) k) (omega (arith, differences-length ps))
 
 -- ---- sizes
-minus-within : (a b : Pair) → PartsWithin 20000 a → PartsWithin 20000 b → PartsWithin 40000 (minus a b)
-minus-within a b h k = record {
-  re = bounds (h .re ▸ k .re ▸ done) (λ ρ e b. simp (e 0, e 1, readℤ) (within b _ refl));
-  im = bounds (h .im ▸ k .im ▸ done) (λ ρ e b. simp (e 0, e 1, readℤ) (within b _ refl));
-}
-
 pub legs-within : (ps : List Pair) → InRange ps → (i : ℕ) → PartsWithin 40000 (at pairs (differences ps) i)
 unfolding differences
 legs-within [] h i = zero-within
 legs-within (p ∷ []) h i = zero-within
-legs-within (p ∷ q ∷ ps) (hp, (hq, hs)) zero = minus-within q p hq hp
+legs-within (p ∷ q ∷ ps) (hp, (hq, hs)) zero = minus-within hq hp
 legs-within (p ∷ q ∷ ps) (hp, hs) (suc i) = legs-within (q ∷ ps) hs i

@@ -1,10 +1,12 @@
--- The theory of curves and verdicts, from what a flag tells up to what `recognise` cites.
-pub mod Flags
+-- The theory of curves and verdicts, up to what `recognise` cites.
 pub mod Differences
 pub mod Lengths
 pub mod LegPolynomial
 pub mod Quarters
 pub mod Sizes
+pub mod Derivative
+pub mod PowerForms
+pub mod SquaredLegs
 pub mod Ends
 pub mod Lengthening
 pub mod Conjugates
@@ -19,6 +21,7 @@ pub mod Points
 pub mod Normal
 pub mod Cover
 pub mod Refusals
+pub mod FoundSizes
 pub mod Turned
 pub mod Known
 pub mod Examples

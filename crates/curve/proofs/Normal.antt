@@ -20,6 +20,7 @@ use Rattle.pair.specs.Pairs.{pair, pairs, negative, imaginary}
 use Rattle.pair.proofs.Laws.{pairs-ring, pairs-domain}
 use Rattle.pair.proofs.Divisors.{pair-zero?}
 use Rattle.pair.proofs.Euclid.{pairs-bezout}
+use Rattle.pair.proofs.Roots.{first-some, first-found}
 use Rattle.root.specs.declared.Quartic.{Quartic}
 use Rattle.root.specs.Pairs.{quadratic, LeadKept}
 use Rattle.root.specs.declared.pairs.Quadratic.{Quadratic}
@@ -32,7 +33,7 @@ use Rattle.curve.proofs.Coprime.{primitive-coprime, unit-coprime}
 use Rattle.curve.proofs.Lengths.{squaredLength-zero, squared-above}
 use Rattle.curve.proofs.Generators.{generated-turned, generated-opposite}
 use Rattle.curve.proofs.Norms.{Reduced, reduced}
-use Rattle.curve.proofs.Signs.{lead-found, first-some, first-found, lead-first-found}
+use Rattle.curve.proofs.Signs.{lead-found, lead-first-found}
 
 -- the five coefficients of a polynomial of degree at most 4, and the three of one of degree at most 2
 abbrev as-quartic : List ℤ → Quartic

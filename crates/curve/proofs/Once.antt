@@ -28,7 +28,7 @@ use Rattle.pair.specs.declared.Pair.{Pair}
 use Rattle.pair.specs.Pairs.{pair, pairs, times, negative, norm, imaginary}
 use Rattle.pair.proofs.Laws.{pairs-ring, pairs-domain, norm-nonneg}
 use Rattle.pair.proofs.Euclid.{pairs-bezout}
-use Rattle.pair.proofs.Roots.{not-both}
+use Rattle.pair.proofs.Roots.{not-both, first-some}
 use Rattle.pair.proofs.Units.{no-imaginary-square}
 use Rattle.root.specs.Pairs.{quadratic, LeadKept}
 use Rattle.root.specs.Roots.{quartic}
@@ -43,7 +43,7 @@ use Rattle.curve.specs.Promise.{Recognised, out-of-range}
 use Rattle.curve.proofs.Coprime.{by-unit, coprime-primitive}
 use Rattle.curve.proofs.Lengths.{generated-squared, squaredLength-lead-positive}
 use Rattle.curve.proofs.Norms.{generated-content}
-use Rattle.curve.proofs.Signs.{lead-once, lead-first-once, first-some, first-top}
+use Rattle.curve.proofs.Signs.{lead-once, lead-first-once, first-top}
 
 -- ---- c and q
 positive-some : {c : ℤ} → pos 0 <ℤ c → c ≢ pos 0

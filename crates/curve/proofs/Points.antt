@@ -1,24 +1,32 @@
--- Still curves, of any number of points.
+-- The points of a curve, and still curves of any number of points.
+--   curve-once       a curve is known by its points
 --   still-legs       D = 0 exactly when every leg is 0,
 --   still-points     exactly when all points are equal
 use mathlib.Core.Path.{_≡_, refl, sym, ap, _∙_}
 use mathlib.Core.List.{List, [], _∷_}
-use mathlib.Core.Logic.{_↔_, ⊎-elim}
+use mathlib.Core.Logic.{_↔_}
 use Prim.Native.Nat.{ℕ, zero, suc, _+_, _-_, _≤_, _<_}
 use native.Mathlib.Omega.{arith}
-use lib.IntN.{ℤ, pos, natAbs, _*ℤ_, *ℤ-zero}
+use lib.IntN.{pos}
 use lib.ListN.{length}
 use Rattle.whole.specs.Poly.{at, Same, choose}
-use Rattle.whole.proofs.Integers.{*ℤ-domain}
 use Rattle.whole.proofs.Ring.{zero-difference}
 use Rattle.poly.proofs.Binomials.{choose-positive}
 use Rattle.pair.specs.declared.Pair.{Pair}
 use Rattle.pair.specs.Pairs.{pairs, minus, multiple}
-use Rattle.pair.proofs.Parts.{pair-equal}
-use Rattle.pair.proofs.Laws.{pairs-ring}
-use Rattle.curve.specs.Curves.{differences, powers, powerForm, legPolynomial}
+use Rattle.pair.proofs.Laws.{pairs-ring, multiple-none, multiple-cancel}
+use Rattle.curve.specs.declared.Curve.{Curve}
+use Rattle.curve.specs.declared.Curve.the-variants.{Cubic, Quintic}
+use Rattle.curve.specs.Curves.{pointsOf, differences, powers, powerForm, legPolynomial}
 use Rattle.curve.specs.Verdicts.{Still}
 use Rattle.curve.proofs.LegPolynomial.{differences-length}
+
+pub curve-once : (c d : Curve) → pointsOf c ≡ pointsOf d → c ≡ d
+curve-once (Cubic c) (Cubic d) e = λ i. Cubic (record { p0 = at pairs (e i) 0; p1 = at pairs (e i) 1; p2 = at pairs (e i) 2; p3 = at pairs (e i) 3 })
+curve-once (Cubic c) (Quintic d) e = absurd (omega (arith, ap length e))
+curve-once (Quintic c) (Cubic d) e = absurd (omega (arith, ap length e))
+curve-once (Quintic c) (Quintic d) e =
+    λ i. Quintic (record { p0 = at pairs (e i) 0; p1 = at pairs (e i) 1; p2 = at pairs (e i) 2; p3 = at pairs (e i) 3; p4 = at pairs (e i) 4; p5 = at pairs (e i) 5 })
 
 -- ---- the legs
 minus-zero : (p q : Pair) → minus q p ≡ pairs .none → q ≡ p
@@ -26,18 +34,6 @@ minus-zero p q e = zero-difference pairs-ring q p e
 
 minus-self : (p q : Pair) → q ≡ p → minus q p ≡ pairs .none
 minus-self p q e = ap (λ t. minus t p) e ∙ pairs-ring .plus-negative p
-
-multiple-zero : (c : ℕ) (d : Pair) → 0 < c → multiple (pos c) d ≡ pairs .none → d ≡ pairs .none
-multiple-zero c d h e = pair-equal (part (d .re) (ap (λ z. z .re) e)) (part (d .im) (ap (λ z. z .im) e))
-  where
-    part : (x : ℤ) → pos c *ℤ x ≡ pos 0 → x ≡ pos 0
-    part x i = ⊎-elim (λ z. absurd (zero-not (ap natAbs z))) (λ z. z) (*ℤ-domain (pos c) x i)
-      where
-        zero-not : c ≡ 0 → ⊥
-        zero-not z = omega arith
-
-multiple-none : (c : ℤ) (d : Pair) → d ≡ pairs .none → multiple c d ≡ pairs .none
-multiple-none c d e = ap (multiple c) e ∙ pair-equal (*ℤ-zero c) (*ℤ-zero c)
 
 -- where the first difference of each order is 0, every one is
 differences-none : (d : Pair) (ds : List Pair) → d ≡ pairs .none → Same pairs (differences (d ∷ ds)) [] → Same pairs (d ∷ ds) []
@@ -59,14 +55,14 @@ powers-none zero m k [] l h e = λ j. refl
 powers-none zero m k (d ∷ ds) l h e = absurd (omega arith)
 powers-none (suc n) m k [] l h e = λ j. refl
 powers-none (suc n) m k (d ∷ ds) l h e =
-    differences-none d ds (multiple-zero (choose m k) d (choose-positive m k (omega arith)) (e zero))
+    differences-none d ds (multiple-cancel (choose m k) (choose-positive m k (omega arith)) (e zero ∙ sym (multiple-none (pos (choose m k)))))
     (powers-none n m (suc k) (differences (d ∷ ds)) (omega (arith, differences-length (d ∷ ds))) (omega arith) (λ j. e (suc j)))
 
 none-powers : (n m k : ℕ) (ds : List Pair) → Same pairs ds [] → Same pairs (powers n m k ds) []
 unfolding powers
 none-powers zero m k ds e j = refl
 none-powers (suc n) m k [] e j = refl
-none-powers (suc n) m k (d ∷ ds) e zero = multiple-none (pos (choose m k)) d (e zero)
+none-powers (suc n) m k (d ∷ ds) e zero = ap (multiple (pos (choose m k))) (e zero) ∙ multiple-none (pos (choose m k))
 none-powers (suc n) m k (d ∷ ds) e (suc j) = none-powers n m (suc k) (differences (d ∷ ds)) (none-differences (d ∷ ds) e) j
 
 pub still-legs : (ps : List Pair) → Still (legPolynomial ps) ↔ Same pairs (differences ps) []

@@ -2,7 +2,7 @@
 --   preimageAnswer      the answer that a verdict gives
 --   recognised-preimage what `recognise` promises of a verdict gives what `preimage_of` promises
 --   preimaged-once      the promise has one answer
-use mathlib.Core.Path.{_≡_, refl, sym, ap, _∙_}
+use mathlib.Core.Path.{_≡_, refl, ap}
 use mathlib.Core.List.{List, [], _∷_}
 use mathlib.Core.Logic.{inl, inr}
 use Prim.Native.Nat.{ℕ}
@@ -19,7 +19,7 @@ use Rattle.curve.specs.declared.Verdict.the-variants as verdict
 use Rattle.curve.specs.declared.PreimageAnswer.{PreimageAnswer}
 use Rattle.curve.specs.declared.PreimageAnswer.the-variants.{Found, Refused}
 use Rattle.curve.specs.Curves.{InRange, legPolynomial}
-use Rattle.curve.specs.Promise.{out-of-range, still, not-ph, no-preimage, Recognised, Preimaged, numberOfPreimage}
+use Rattle.curve.specs.Promise.{out-of-range, preimage-causes, Recognised, Preimaged, numberOfPreimage}
 use Rattle.curve.proofs.Once.{preimage-once}
 
 abbrev pub preimageAnswer : Verdict → PreimageAnswer
@@ -66,7 +66,7 @@ module _ (ps : List Pair) where
   recognised-preimage (verdict.Refused r) h = refused r (h .refusal)
 
   pub preimaged-once : (r s : PreimageAnswer) → Preimaged ps r → Preimaged ps s → r ≡ s
-  preimaged-once r s h k = by r s h k (first-once (out-of-range ps ∷ still ps ∷ not-ph ps ∷ no-preimage ps ∷ []) (numberOfPreimage r) (numberOfPreimage s) (h .refusal) (k .refusal))
+  preimaged-once r s h k = by r s h k (first-once (preimage-causes ps) (numberOfPreimage r) (numberOfPreimage s) (h .refusal) (k .refusal))
     where
       by : (r s : PreimageAnswer) → Preimaged ps r → Preimaged ps s → numberOfPreimage r ≡ numberOfPreimage s → r ≡ s
       by (Found p) (Found q) h k e = ap Found (preimage-once (legPolynomial ps) p q (h .preimage refl) (k .preimage refl))

@@ -1,16 +1,14 @@
 -- The sign rules: of a polynomial and its negative they keep one.
---   first-some                  a pair with a positive first part that is not zero is not 0
 --   first-top                   the highest power that the sign rule for pairs speaks of
 --   lead-once                   p = q or p = −q, both with a positive lead: p = q
 --   lead-same                   the rule for pairs holds of a polynomial, however it is written
 --   lead-first-once             the same for pairs
 --   lead-found                  a polynomial other than 0, or its negative, has a positive lead
---   first-found                 a pair other than 0, or its negative, has a positive first part that is not zero
---   lead-first-found            so has the lead of a polynomial with pairs or of its negative
-use mathlib.Core.Path.{_≡_, refl, sym, ap, _∙_, subst}
+--   lead-first-found            the same for pairs
+use mathlib.Core.Path.{sym, ap, _∙_, subst}
 use mathlib.Core.List.{List}
-use mathlib.Core.Logic.{_≢_, _⊎_, inl, inr}
-use Prim.Native.Nat.{ℕ, zero, suc}
+use mathlib.Core.Logic.{_⊎_, inl, inr}
+use Prim.Native.Nat.{ℕ}
 use lib.IntN.{ℤ, pos, negsuc, negℤ}
 use lib.Signed.{_≤ℤ_, _<ℤ_}
 use Rattle.whole.specs.Poly.{at, Same, scaled}
@@ -18,15 +16,15 @@ use Rattle.whole.specs.Number.{wholes, FirstPositive}
 use Rattle.whole.proofs.Linear.{linear, negative-parts}
 use Rattle.whole.proofs.Order.{compare}
 use Rattle.whole.proofs.Wholes.{wholes-ring}
+use Rattle.whole.proofs.Signs.{negated-positive}
 use Rattle.poly.specs.Terms.{Top}
 use Rattle.poly.proofs.Lists.{at-opposite}
 use Rattle.poly.proofs.Domain.{UpToSign}
 use Rattle.poly.proofs.Top.{up-to-sign-same}
 use Rattle.pair.specs.declared.Pair.{Pair}
 use Rattle.pair.specs.Pairs.{pair, pairs, negative}
-use Rattle.pair.proofs.Parts.{pair-equal}
 use Rattle.pair.proofs.Laws.{pairs-ring}
-use Rattle.pair.proofs.Roots.{not-both}
+use Rattle.pair.proofs.Roots.{not-both, first-some, first-found}
 use Rattle.root.specs.Roots.{LeadPositive}
 use Rattle.root.specs.Pairs.{LeadKept}
 
@@ -40,10 +38,6 @@ lead-once p q h k =
     (λ e. omega (linear, h .positive, k .positive, e, negative-parts (at wholes q (k .power))))
 
 -- ---- pairs
-pub first-some : {a : Pair} → FirstPositive (a .re) (a .im) → a ≢ pairs .none
-first-some (inl h) z = omega (linear, h, ap (λ t. t .re) z)
-first-some (inr h) z = omega (linear, h .1, ap (λ t. t .im) z)
-
 pub first-top : {w : List Pair} (h : LeadKept w) → Top pairs w (h .power)
 first-top h = record { lead = first-some (h .positive); above = h .above }
 
@@ -60,11 +54,6 @@ lead-same e h = record {
 }
 
 -- ---- one of the two signs fits
-negated-positive : (x : ℤ) → x ≤ℤ pos 0 → x ≢ pos 0 → pos 0 <ℤ negℤ x
-negated-positive (pos zero) h n = absurd (n refl)
-negated-positive (pos (suc m)) h n = omega linear
-negated-positive (negsuc m) h n = omega linear
-
 pub lead-found : (q : List ℤ) (m : ℕ) → Top wholes q m → LeadPositive q ⊎ LeadPositive (scaled wholes (negsuc 0) q)
 lead-found q m t = by (compare (at wholes q m) (pos 0))
   where
@@ -75,18 +64,6 @@ lead-found q m t = by (compare (at wholes q m) (pos 0))
       positive = rw (at-opposite wholes-ring q m) (negated-positive (at wholes q m) h (t .lead));
       above = λ k l. at-opposite wholes-ring q k ∙ ap negℤ (t .above k l);
     })
-
-pub first-found : (a : Pair) → a ≢ pairs .none → FirstPositive (a .re) (a .im) ⊎ FirstPositive (negℤ (a .re)) (negℤ (a .im))
-first-found a n = by (compare (a .re) (pos 0)) (compare (pos 0) (a .re)) (compare (a .im) (pos 0))
-  where
-    by : (a .re ≤ℤ pos 0) ⊎ (pos 0 <ℤ a .re) → (pos 0 ≤ℤ a .re) ⊎ (a .re <ℤ pos 0) → (a .im ≤ℤ pos 0) ⊎ (pos 0 <ℤ a .im)
-        → FirstPositive (a .re) (a .im) ⊎ FirstPositive (negℤ (a .re)) (negℤ (a .im))
-    by (inr h) k l = inl (inl h)
-    by (inl h) (inr k) l = inr (inl (omega (linear, negative-parts (a .re))))
-    by (inl h) (inl k) (inr l) = inl (inr (omega linear, l))
-    by (inl h) (inl k) (inl l) =
-        let z : a .re ≡ pos 0 = omega linear in
-        inr (inr (ap negℤ z, negated-positive (a .im) l (λ e. n (pair-equal z e))))
 
 pub lead-first-found : (w : List Pair) (m : ℕ) → Top pairs w m → LeadKept w ⊎ LeadKept (scaled pairs (pair (negsuc 0) (pos 0)) w)
 lead-first-found w m t = by (first-found (at pairs w m) (t .lead))

@@ -1,29 +1,26 @@
 -- Pairs and polynomials turned by a unit, and the signs of κ and w.
---   turned-within, opposite-within     i a and −a are no larger than a
 --   imaginary-some                     i is not 0
 --   opposite-some, turned-some         i a and −a are not 0 where a is not
---   turned-all                         and i w is no larger than w
+--   turned-all                         i w is no larger than w
 --   turned-twice                       i (i w) is −w
 --   lead-of                            where w keeps its sign, so does its highest coefficient
 --   pre-holds                          D = κ w² with the signs of the rules: the verdict is pre
 use mathlib.Core.Path.{_≡_, sym, ap, _∙_, subst}
 use mathlib.Core.List.{List}
 use mathlib.Core.Logic.{_≢_, ⊎-elim}
-use native.Mathlib.Nat.{le-trans, le-of-eq}
 use Prim.Native.Nat.{ℕ}
-use lib.IntN.{pos, negsuc, negℤ, negℤ-negℤ}
+use lib.IntN.{pos, negsuc}
 use Rattle.whole.specs.Poly.{at, Same, scaled, square}
 use Rattle.whole.specs.Number.{FirstPositive}
-use Rattle.whole.proofs.Integers.{abs-negative}
 use Rattle.whole.proofs.Linear.{linear}
 use Rattle.poly.specs.Terms.{Top}
 use Rattle.poly.proofs.Lists.{at-scaled, scaled-same, scaled-scaled, square-same}
 use Rattle.poly.proofs.Content.{primitive-same}
 use Rattle.poly.proofs.Top.{top-unique}
 use Rattle.pair.specs.declared.Pair.{Pair}
-use Rattle.pair.specs.Pairs.{pair, pairs, times, negative, imaginary, PartsWithin, AllWithin}
-use Rattle.pair.proofs.Parts.{pair-equal, turned-parts}
-use Rattle.pair.proofs.Laws.{pairs-ring, pairs-domain}
+use Rattle.pair.specs.Pairs.{pair, pairs, times, negative, imaginary, AllWithin}
+use Rattle.pair.proofs.Laws.{pairs-ring, pairs-domain, negative-twice}
+use Rattle.pair.proofs.Parts.{turned-within}
 use Rattle.root.specs.Pairs.{quadratic, LeadKept}
 use Rattle.curve.specs.declared.Preimage.{Preimage}
 use Rattle.curve.specs.declared.Verdict.the-variants as verdict
@@ -33,24 +30,14 @@ use Rattle.curve.proofs.Coprime.{coprime-primitive, primitive-coprime, 
 use Rattle.curve.proofs.Generators.{generated-scaled}
 use Rattle.curve.proofs.Signs.{first-top}
 
-pub opposite-within : {B : ℕ} {a : Pair} → PartsWithin B a → PartsWithin B (negative a)
-opposite-within {a} h = record {
-  re = record { size = le-trans (le-of-eq (abs-negative (a .re))) (h .re .size) };
-  im = record { size = le-trans (le-of-eq (abs-negative (a .im))) (h .im .size) };
-}
-
 pub opposite-some : {a : Pair} → a ≢ pairs .none → negative a ≢ pairs .none
-opposite-some {a} n z =
-    n (pair-equal (sym (negℤ-negℤ (a .re)) ∙ ap (λ b. negℤ (b .re)) z) (sym (negℤ-negℤ (a .im)) ∙ ap (λ b. negℤ (b .im)) z))
+opposite-some {a} n z = n (sym (negative-twice a) ∙ ap negative z)
 
 pub imaginary-some : imaginary ≢ pairs .none
 imaginary-some z = let t : pos 1 ≡ pos 0 = ap (λ a. a .im) z in omega linear
 
 pub turned-some : {a : Pair} → a ≢ pairs .none → times imaginary a ≢ pairs .none
 turned-some {a} n z = ⊎-elim imaginary-some n (pairs-domain .splits imaginary a z)
-
-pub turned-within : {B : ℕ} {a : Pair} → PartsWithin B a → PartsWithin B (times imaginary a)
-turned-within {a} h = rw (turned-parts a) (record { re = opposite-within h .im; im = h .re })
 
 pub turned-all : {B : ℕ} (w v : List Pair) → Same pairs v (scaled pairs imaginary w) → AllWithin B w → AllWithin B v
 turned-all w v e h k = rw (e k ∙ at-scaled pairs-ring imaginary w k) (turned-within (h k))

@@ -1,5 +1,6 @@
 -- What `recognise` and `preimage_of` promise, and the causes of refusal that the calls on a curve share.
 --   out-of-range, still, not-ph, no-preimage     the causes
+--   preimage-causes                              their order: 6, 8, 9, 10
 --   Recognised                                   the verdict on a curve in range
 --   Preimaged                                    the pre-image of a curve, or the first cause why it has none
 use mathlib.Core.Path.{_≡_}
@@ -26,6 +27,9 @@ not-ph ps = record { refusal = R.NotPh; holds = NotSquared (legPolynomial ps) }
 abbrev pub no-preimage : List Pair → Cause
 no-preimage ps = record { refusal = R.NoPreimage; holds = NotGenerated (legPolynomial ps) }
 
+abbrev pub preimage-causes : List Pair → List Cause
+preimage-causes ps = out-of-range ps ∷ still ps ∷ not-ph ps ∷ no-preimage ps ∷ []
+
 pub record Recognised (ps : List Pair) (v : Verdict) : Type 0 where
   pub refusal : First (out-of-range ps ∷ []) (numberOfVerdict v)
   pub verdict : numberOfVerdict v ≡ 0 → Holds (legPolynomial ps) v
@@ -39,5 +43,5 @@ GivesPreimage D (Found p) = PreimageOf D p
 GivesPreimage D (Refused r) = ⊥
 
 pub record Preimaged (ps : List Pair) (r : PreimageAnswer) : Type 0 where
-  pub refusal : First (out-of-range ps ∷ still ps ∷ not-ph ps ∷ no-preimage ps ∷ []) (numberOfPreimage r)
+  pub refusal : First (preimage-causes ps) (numberOfPreimage r)
   pub preimage : numberOfPreimage r ≡ 0 → GivesPreimage (legPolynomial ps) r

@@ -19,11 +19,12 @@ use Rattle.whole.specs.Number.{FirstPositive}
 use Rattle.whole.proofs.Linear.{linear, minus-parts, times-parts, negative-parts}
 use Rattle.pair.specs.declared.Pair.{Pair}
 use Rattle.pair.specs.Pairs.{plus, minus, negative, times, multiple}
-use Rattle.pair.proofs.Roots.{square-roots}
+use Rattle.pair.proofs.Roots.{square-roots, kept-roots}
+use Rattle.pair.proofs.Parts.{re-equal, im-equal}
+use Rattle.pair.proofs.Laws.{multiple-cancel}
+use Rattle.pair.proofs.PairSolver.{PairEx, the, _⊞_, _⊟_, _⊠_, _··_, opposite, solve-pairs}
 use Rattle.join.specs.Listing.{Triple, travelled, Travels, Join, Below, AllJoins}
 use Rattle.join.specs.Steps.{triple, shift, discriminant, centre, Quartered, Half}
-use Rattle.join.proofs.PairSolver.{Parts, the, _⊞_, _⊟_, _⊠_, _··_, opposite, solve-pairs}
-use Rattle.join.proofs.Pairs.{re-of, im-of, multiple-cancel, kept-roots}
 use Rattle.join.proofs.Order.{triple-equal, Before}
 use Rattle.join.proofs.Few.{sorted-distinct, AtMost, at-most-one, at-most-as, at-most-both, at-most-by}
 
@@ -37,7 +38,7 @@ abbrev ruled : Pair → Pair → Pair → Pair → Pair → Pair
 ruled a z w0 w2 X = minus (times (shift w0 w2) (shift w0 w2)) (multiple (pos 8) (plus (minus (multiple (pos 3) (plus a z)) X) (times w0 w2)))
 
 -- `travelled`, for the solver
-abbrev pub way : Parts
+abbrev pub way : PairEx
 way = 3 ·· (the 0 ⊠ the 0) ⊞ (3 ·· (the 0 ⊠ the 1) ⊞ (2 ·· (the 1 ⊠ the 1) ⊞ (the 0 ⊠ the 2 ⊞ (3 ·· (the 1 ⊠ the 2) ⊞ 3 ·· (the 2 ⊠ the 2)))))
 
 centre-square : (w0 w1 w2 : Pair) → times (centre w0 w1 w2) (centre w0 w1 w2) ≡ ruled (times w0 w0) (times w2 w2) w0 w2 (travelled (triple w0 w1 w2))
@@ -122,16 +123,16 @@ level : (x y c d : ℤ) → pos 4 *ℤ x ≡ negℤ d -ℤ c → pos 4 *ℤ y �
 level x y c d e f h = omega (linear, times-parts (pos 4) x, times-parts (pos 4) y, minus-parts (negℤ d) c, minus-parts d c, negative-parts d)
 
 pub quarters-below : (w0 w2 s δ : Pair) → FirstPositive (δ .re) (δ .im) → (u v : Triple) → Quartered w0 (minus (negative δ) s) w2 u → Quartered w0 (minus δ s) w2 v → Before u v
-quarters-below w0 w2 s δ p u v h k = inr (re-of ends, inr (im-of ends, by p))
+quarters-below w0 w2 s δ p u v h k = inr (re-equal ends, inr (im-equal ends, by p))
   where
     ends : u .w2 ≡ v .w2
     ends = h .last ∙ sym (k .last)
 
     by : FirstPositive (δ .re) (δ .im) → Below (u .w1 .re ∷ u .w1 .im ∷ []) (v .w1 .re ∷ v .w1 .im ∷ [])
-    by (inl l) = inl (lower (u .w1 .re) (v .w1 .re) (s .re) (δ .re) (re-of (h .middle)) (re-of (k .middle)) l)
+    by (inl l) = inl (lower (u .w1 .re) (v .w1 .re) (s .re) (δ .re) (re-equal (h .middle)) (re-equal (k .middle)) l)
     by (inr (e, l)) = inr (
-      level (u .w1 .re) (v .w1 .re) (s .re) (δ .re) (re-of (h .middle)) (re-of (k .middle)) e,
-      inl (lower (u .w1 .im) (v .w1 .im) (s .im) (δ .im) (im-of (h .middle)) (im-of (k .middle)) l),
+      level (u .w1 .re) (v .w1 .re) (s .re) (δ .re) (re-equal (h .middle)) (re-equal (k .middle)) e,
+      inl (lower (u .w1 .im) (v .w1 .im) (s .im) (δ .im) (im-equal (h .middle)) (im-equal (k .middle)) l),
     )
 
 pub ends-below : (r : Pair) → FirstPositive (r .re) (r .im) → (u v : Triple) → u .w2 ≡ negative r → v .w2 ≡ r → Before u v
@@ -141,8 +142,8 @@ ends-below r p u v e f = by p
     under x y d e f h = omega (linear, negative-parts d)
 
     by : FirstPositive (r .re) (r .im) → Before u v
-    by (inl l) = inl (under (u .w2 .re) (v .w2 .re) (r .re) (re-of e) (re-of f) l)
-    by (inr (z, l)) = inr (re-of e ∙ ap negℤ z ∙ sym (re-of f ∙ z), inl (under (u .w2 .im) (v .w2 .im) (r .im) (im-of e) (im-of f) l))
+    by (inl l) = inl (under (u .w2 .re) (v .w2 .re) (r .re) (re-equal e) (re-equal f) l)
+    by (inr (z, l)) = inr (re-equal e ∙ ap negℤ z ∙ sym (re-equal f ∙ z), inl (under (u .w2 .im) (v .w2 .im) (r .im) (im-equal e) (im-equal f) l))
 
 -- ---- the joins
 module _ (a z T w0 : Pair) (first : times w0 w0 ≡ a) (kept : FirstPositive (w0 .re) (w0 .im)) where

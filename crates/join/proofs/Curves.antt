@@ -1,11 +1,12 @@
 -- The joins as curves: the list holds each quintic from a to z over T whose leg polynomial is the square of a quadratic, once.
+--   squares-legs        five legs are those of the square of w exactly when three times each is what w makes
 --   legs-decide         two kept triples with the same legs are equal
 --   some-leg-differs    so two different triples of the list differ in a leg
 --   traced-once         legs from a to z over T whose leg polynomial is a square are those of one triple of the list, and of no other
 --   each-traces         every triple of the list has such legs
 use mathlib.Core.Path.{_≡_, refl, sym, ap, ap₂, _∙_}
 use mathlib.Core.List.{List, [], _∷_, map}
-use mathlib.Core.Logic.{_≢_, ⊎-elim}
+use mathlib.Core.Logic.{_≢_, ⊎-elim, _↔_}
 use Prim.Native.Nat.{ℕ, zero, suc}
 use native.Mathlib.Omega.{arith}
 use lib.IntN.{pos}
@@ -16,17 +17,22 @@ use Rattle.whole.proofs.Ring.{plus-cancel, zero-difference}
 use Rattle.poly.proofs.Domain.{times-cancel}
 use Rattle.pair.specs.declared.Pair.{Pair}
 use Rattle.pair.specs.Pairs.{pairs, plus, minus, negative, times, multiple}
-use Rattle.pair.proofs.Laws.{pairs-ring, pairs-domain}
+use Rattle.pair.proofs.Laws.{pairs-ring, pairs-domain, multiple-cancel}
 use Rattle.pair.proofs.Divisors.{pair-zero?}
-use Rattle.curve.proofs.Signs.{first-some, first-found}
+use Rattle.pair.proofs.PairSolver.{the, _⊞_, _⊟_, _⊠_, _··_, opposite, nought, solve-pairs}
+use Rattle.pair.proofs.Roots.{first-some, first-found, kept-roots}
+use Rattle.curve.proofs.SquaredLegs.{t0, t1, t2, t3, t4, quintic-legs}
 use Rattle.join.specs.Listing.{Triple, travelled, Join, Member, AllJoins}
-use Rattle.join.specs.Curves.{QuinticLegs, legList, total, tripled, Traces, TracedOnce}
+use Rattle.join.specs.Curves.{QuinticLegs, legList, total, tripled, Squares, Traces, TracedOnce}
 use Rattle.join.specs.Steps.{triple}
-use Rattle.join.proofs.PairSolver.{the, _⊞_, _⊟_, _⊠_, _··_, opposite, nought, solve-pairs}
-use Rattle.join.proofs.Pairs.{multiple-cancel, kept-roots}
 use Rattle.join.proofs.Order.{triple-equal}
 use Rattle.join.proofs.Centres.{way}
-use Rattle.join.proofs.TripledLegs.{pairsOf, t0, t1, t2, t3, t4, squares-legs}
+
+abbrev pairsOf : Triple → List Pair
+pairsOf w = w .w0 ∷ w .w1 ∷ w .w2 ∷ []
+
+pub squares-legs : (w : Triple) (d : QuinticLegs) → Squares w d ↔ (map (multiple (pos 3)) (legList d) ≡ tripled w)
+squares-legs w d = quintic-legs (w .w0) (w .w1) (w .w2) (d .d0) (d .d1) (d .d2) (d .d3) (d .d4)
 
 -- ---- the legs decide a kept triple
 pub legs-decide : (u v : Triple) → FirstPositive (u .w0 .re) (u .w0 .im) → FirstPositive (v .w0 .re) (v .w0 .im) → tripled u ≡ tripled v → u ≡ v

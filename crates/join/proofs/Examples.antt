@@ -16,9 +16,9 @@ use Rattle.whole.proofs.Linear.{linear, plus-parts, minus-parts, times-parts}
 use Rattle.pair.specs.declared.Pair.{Pair}
 use Rattle.pair.specs.Pairs.{pair, one, imaginary, negative, minus, times, multiple}
 use Rattle.pair.proofs.Laws.{square-size}
+use Rattle.pair.proofs.Parts.{re-equal, im-equal}
 use Rattle.join.specs.Listing.{Triple, Lists, AllJoins}
 use Rattle.join.specs.Steps.{triple, shift, discriminant, centre, Quartered, Half}
-use Rattle.join.proofs.Pairs.{re-of, im-of}
 use Rattle.join.proofs.Order.{lists-as, lists-none, lists-one, lists-both}
 use Rattle.join.proofs.Centres.{rest, quartered-once, quarters-half, half-quarters, quarters-below, halves-join, join-halves, ends-below}
 
@@ -32,7 +32,7 @@ quarter-is w0 n w2 m e =
     lists-one (triple w0 m w2) h (λ w k. quartered-once w0 n w2 w (triple w0 m w2) k h)
 
 quarter-none : (w0 n w2 : Pair) → ((x : ℤ) → pos 4 *ℤ x ≢ n .re) → Lists (Quartered w0 n w2) []
-quarter-none w0 n w2 h = lists-none (λ w k. h (w .w1 .re) (re-of (k .middle)))
+quarter-none w0 n w2 h = lists-none (λ w k. h (w .w1 .re) (re-equal (k .middle)))
 
 half-is : (m w0 w2 δ : Pair) {us vs : List Triple} → times δ δ ≡ discriminant m w0 w2 → FirstPositive (δ .re) (δ .im)
     → Lists (Quartered w0 (minus (negative δ) (shift w0 w2)) w2) us → Lists (Quartered w0 (minus δ (shift w0 w2)) w2) vs → Lists (Half m w0 w2) (us ++ vs)
@@ -65,14 +65,14 @@ no-eighty δ e = ⊎-elim left right (*ℤ-domain (δ .re) (δ .im) cross)
     y = δ .im
 
     cross : δ .re *ℤ δ .im ≡ pos 0
-    cross = let f : x *ℤ y +ℤ x *ℤ y ≡ pos 0 = ap (λ t. x *ℤ y +ℤ t) (*ℤ-comm x y) ∙ im-of e in omega (linear, plus-parts (x *ℤ y) (x *ℤ y))
+    cross = let f : x *ℤ y +ℤ x *ℤ y ≡ pos 0 = ap (λ t. x *ℤ y +ℤ t) (*ℤ-comm x y) ∙ im-equal e in omega (linear, plus-parts (x *ℤ y) (x *ℤ y))
 
     left : δ .re ≡ pos 0 → ⊥
-    left z = let f : pos 0 -ℤ pos (natAbs y * natAbs y) ≡ pos 80 = ap₂ (λ s t. s *ℤ s -ℤ t) (sym z) (sym (square-size y)) ∙ re-of e in omega (linear, minus-parts (pos 0) (pos (natAbs y * natAbs y)))
+    left z = let f : pos 0 -ℤ pos (natAbs y * natAbs y) ≡ pos 80 = ap₂ (λ s t. s *ℤ s -ℤ t) (sym z) (sym (square-size y)) ∙ re-equal e in omega (linear, minus-parts (pos 0) (pos (natAbs y * natAbs y)))
 
     right : δ .im ≡ pos 0 → ⊥
     right z =
-        let f : pos (natAbs x * natAbs x) -ℤ pos 0 ≡ pos 80 = ap₂ (λ s t. s -ℤ t *ℤ t) (sym (square-size x)) (sym z) ∙ re-of e in
+        let f : pos (natAbs x * natAbs x) -ℤ pos 0 ≡ pos 80 = ap₂ (λ s t. s -ℤ t *ℤ t) (sym (square-size x)) (sym z) ∙ re-equal e in
         eighty (natAbs x) (omega (linear, minus-parts (pos (natAbs x * natAbs x)) (pos 0)))
 
 pub case-8 : AllJoins one one (pair (pos 5) (pos 0)) (triple one (pair (negsuc 3) (pos 0)) one ∷ triple one one one ∷ [])

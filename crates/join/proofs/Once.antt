@@ -9,11 +9,11 @@ use lib.ListN.{length}
 use Rattle.refusal.specs.declared.Refusal.{Refusal}
 use Rattle.refusal.specs.Table.{numberOf}
 use Rattle.refusal.proofs.Laws.{number-positive, number-once, first-once}
+use Rattle.whole.proofs.Areas.{fills-once}
 use Rattle.pair.specs.declared.Pair.{Pair}
 use Rattle.join.specs.declared.JoinAnswer.{JoinAnswer}
 use Rattle.join.specs.declared.JoinAnswer.the-variants as answers
 use Rattle.join.specs.Listing.{Joined, causes, numbers, numberOfJoins}
-use Rattle.join.proofs.Areas.{fills-once}
 use Rattle.join.proofs.Order.{lists-once}
 
 not-zero : (r : Refusal) → numberOf r ≡ 0 → ⊥

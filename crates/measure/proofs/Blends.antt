@@ -10,7 +10,7 @@ use lib.Signed.{_≤ℤ_, _<ℤ_}
 use Rattle.whole.proofs.Wholes.{atomsℤ, readℤ, read-pos, ringℤ}
 use Rattle.whole.proofs.Linear.{linear, plus-parts, minus-parts, times-parts, negative-parts}
 use Rattle.whole.proofs.Order.{le-by, nonneg-plus, nonneg-times, nonneg-square, positive-times}
-use Rattle.measure.proofs.Signs.{Like, Unlike, mixed-times, positive-cancel, like-flip, like-like, unlike-flip, unlike-unlike}
+use Rattle.whole.proofs.Signs.{Like, Unlike, mixed-times, positive-cancel, like-flip, like-like, unlike-flip, unlike-unlike}
 
 abbrev pub blend : ℤ → ℤ → ℤ → ℤ → ℤ → ℤ
 blend a b c v e = a *ℤ (v *ℤ v) +ℤ b *ℤ (v *ℤ e) +ℤ c *ℤ (e *ℤ e)

@@ -17,9 +17,9 @@ use Rattle.whole.proofs.Integers.{*ℤ-domain, *ℤ-plus}
 use Rattle.whole.proofs.Wholes.{atomsℤ, readℤ, ringℤ}
 use Rattle.whole.proofs.Linear.{linear, plus-parts, minus-parts}
 use Rattle.whole.proofs.Order.{nonneg-times, nonneg-square, compare}
+use Rattle.whole.proofs.Signs.{Like, Unlike, mixed-times, unlike-flip, like-unlike, unlike-unlike}
 use Rattle.measure.specs.declared.Turning.{Turning}
 use Rattle.measure.specs.Turns.{CountIs}
-use Rattle.measure.proofs.Signs.{Like, Unlike, mixed-times, unlike-flip, like-unlike, unlike-unlike}
 use Rattle.measure.proofs.Blends.{level-like, flat-like}
 use Rattle.measure.proofs.Most.{startOf, middleOf, endOf, blendOf, at-place, at-most-0, at-most-1, at-most-2}
 use Rattle.measure.proofs.Seen.{Far, enough, enough-far, near, near-zero, near-end, near-end-zero, seen-none, seen-once, seen-twice}

@@ -1,5 +1,4 @@
 -- The theory of the count of inflections and of the length, and the theorems that each promise has one answer.
-pub mod Signs
 pub mod Blends
 pub mod Most
 pub mod Seen

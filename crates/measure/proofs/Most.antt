@@ -14,9 +14,9 @@ use lib.IntN.{ℤ, pos, _+ℤ_, _-ℤ_, _*ℤ_}
 use lib.ListN.{length}
 use Rattle.whole.proofs.Wholes.{atomsℤ, readℤ, read-pos, ringℤ}
 use Rattle.whole.proofs.Linear.{linear, minus-parts}
+use Rattle.whole.proofs.Signs.{Like, Unlike, like-flip, like-like}
 use Rattle.measure.specs.declared.Turning.{Turning}
 use Rattle.measure.specs.Turns.{turnAt, Ascending, Alternate, Changes, CountIs}
-use Rattle.measure.proofs.Signs.{Like, Unlike, like-flip, like-like}
 use Rattle.measure.proofs.Blends.{blend, along, start-like, ends-like}
 
 abbrev pub startOf : Turning → ℤ

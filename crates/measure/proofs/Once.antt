@@ -3,32 +3,28 @@
 --   inflected-once      what `inflections` promises
 use mathlib.Core.Path.{_≡_, refl, sym, ap, _∙_, subst}
 use mathlib.Core.List.{List}
-use mathlib.Core.Bool.{Bool, true, false}
+use mathlib.Core.Bool.{Bool}
 use Prim.Native.Nat.{ℕ}
 use native.Mathlib.Omega.{arith}
 use lib.IntN.{ℤ}
 use Rattle.refusal.proofs.Laws.{number-positive, number-once, first-once}
 use Rattle.whole.specs.Number.{wholes, Tells}
 use Rattle.whole.specs.Poly.{at}
+use Rattle.whole.proofs.Flags.{told-once}
 use Rattle.curve.specs.declared.Curve.{Curve}
 use Rattle.curve.specs.declared.Preimage.{Preimage}
 use Rattle.curve.specs.Curves.{pointsOf, legPolynomial}
 use Rattle.curve.proofs.Once.{preimage-once}
+use Rattle.curve.specs.Promise.{preimage-causes}
 use Rattle.measure.specs.declared.LengthAnswer.{LengthAnswer}
 use Rattle.measure.specs.declared.LengthAnswer.the-variants as L
 use Rattle.measure.specs.declared.InflectionAnswer.{InflectionAnswer}
 use Rattle.measure.specs.declared.InflectionAnswer.the-variants as I
 use Rattle.measure.specs.declared.Turning.{Turning}
 use Rattle.measure.specs.Turns.{turningOf, Straight, CountIs}
-use Rattle.measure.specs.Promises.{causes, numberOfLength, valuesOfLength, numberOfInflections, Measured, Inflected}
+use Rattle.measure.specs.Promises.{numberOfLength, valuesOfLength, numberOfInflections, Measured, Inflected}
 use Rattle.measure.specs.Steps.{lengthBy}
 use Rattle.measure.proofs.Most.{count-once}
-
-told-once : (P : Type 0) (a b : Bool) → Tells P a → Tells P b → a ≡ b
-told-once P true true h k = refl
-told-once P true false h k = absurd (k h)
-told-once P false true h k = absurd (h k)
-told-once P false false h k = refl
 
 module _ (curve : Curve) where
   -- ---- length
@@ -38,7 +34,7 @@ module _ (curve : Curve) where
 
   pub measured-once : (r s : LengthAnswer) → Measured curve r → Measured curve s → r ≡ s
   unfolding valued
-  measured-once r s h k = by r s h k (first-once (causes (pointsOf curve)) (numberOfLength r) (numberOfLength s) (h .refusal) (k .refusal))
+  measured-once r s h k = by r s h k (first-once (preimage-causes (pointsOf curve)) (numberOfLength r) (numberOfLength s) (h .refusal) (k .refusal))
     where
       by : (r s : LengthAnswer) → Measured curve r → Measured curve s → numberOfLength r ≡ numberOfLength s → r ≡ s
       by (L.Length c a b) (L.Length c′ a′ b′) h k e =
@@ -58,7 +54,7 @@ module _ (curve : Curve) where
       λ i. I.Inflections (e i) (count i) (mark i)
 
   pub inflected-once : (r s : InflectionAnswer) → Inflected curve r → Inflected curve s → r ≡ s
-  inflected-once r s h k = by r s h k (first-once (causes (pointsOf curve)) (numberOfInflections r) (numberOfInflections s) (h .refusal) (k .refusal))
+  inflected-once r s h k = by r s h k (first-once (preimage-causes (pointsOf curve)) (numberOfInflections r) (numberOfInflections s) (h .refusal) (k .refusal))
     where
       by : (r s : InflectionAnswer) → Inflected curve r → Inflected curve s → numberOfInflections r ≡ numberOfInflections s → r ≡ s
       by (I.Inflections x k m) (I.Inflections x′ k′ m′) h j e =

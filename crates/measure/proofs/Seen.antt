@@ -15,10 +15,10 @@ use lib.Signed.{_≤ℤ_, _<ℤ_}
 use Rattle.whole.proofs.Wholes.{atomsℤ, readℤ, read-pos, read-negsuc, ringℤ}
 use Rattle.whole.proofs.Linear.{linear, up, dn, plus-parts, minus-parts, times-parts, negative-parts, abs-parts}
 use Rattle.whole.proofs.Order.{nonneg-times, positive-times, nonneg-square, nonneg-is}
+use Rattle.whole.proofs.Signs.{Like, Unlike, like-flip, unlike-flip, like-like, like-unlike, mixed-times, carried, unlike-some}
 use Rattle.poly.proofs.Wholes.{whole-zero?}
 use Rattle.measure.specs.declared.Turning.{Turning}
 use Rattle.measure.specs.Turns.{turnAt, Changes, Straight}
-use Rattle.measure.proofs.Signs.{Like, Unlike, like-flip, unlike-flip, like-like, like-unlike, mixed-times, carried, unlike-some}
 use Rattle.measure.proofs.Blends.{blend, blend-flip}
 use Rattle.measure.proofs.Most.{startOf, middleOf, endOf, blendOf, turn-is}
 

@@ -1,5 +1,4 @@
 -- What `length` and `inflections` promise. For each answer there is a definition of the document's number and values by cases.
---   causes                                 the order of refusals: 6, 8, 9, 10
 --   numberOfLength, valuesOfLength         the refusal's number, 0 for an answer; c, A and B
 --   numberOfInflections, Inflects          the refusal's number, 0 for an answer; that the answer is that of w
 --   Measured, Inflected                    the promises
@@ -7,24 +6,20 @@ use mathlib.Core.Path.{_≡_}
 use mathlib.Core.List.{List, [], _∷_}
 use Prim.Native.Nat.{ℕ}
 use lib.IntN.{ℤ}
-use Rattle.refusal.specs.Table.{Cause, First, numberOf}
+use Rattle.refusal.specs.Table.{First, numberOf}
 use Rattle.whole.specs.Number.{Tells}
-use Rattle.pair.specs.declared.Pair.{Pair}
 use Rattle.root.specs.declared.pairs.Quadratic.{Quadratic}
 use Rattle.curve.specs.declared.Curve.{Curve}
 use Rattle.curve.specs.declared.Preimage.{Preimage}
 use Rattle.curve.specs.Curves.{pointsOf, legPolynomial}
 use Rattle.curve.specs.Verdicts.{PreimageOf}
-use Rattle.curve.specs.Promise.{out-of-range, still, not-ph, no-preimage}
+use Rattle.curve.specs.Promise.{preimage-causes}
 use Rattle.measure.specs.declared.LengthAnswer.{LengthAnswer}
 use Rattle.measure.specs.declared.LengthAnswer.the-variants as L
 use Rattle.measure.specs.declared.InflectionAnswer.{InflectionAnswer}
 use Rattle.measure.specs.declared.InflectionAnswer.the-variants as I
 use Rattle.measure.specs.Lengths.{lengthA, lengthB}
 use Rattle.measure.specs.Turns.{turningOf, Straight, CountIs}
-
-abbrev pub causes : List Pair → List Cause
-causes ps = out-of-range ps ∷ still ps ∷ not-ph ps ∷ no-preimage ps ∷ []
 
 abbrev pub numberOfLength : LengthAnswer → ℕ
 numberOfLength (L.Length c a b) = 0
@@ -43,11 +38,11 @@ Inflects w (I.Inflections x k m) = (x ≡ turningOf w) × CountIs x k × Tells (
 Inflects w (I.Refused r) = ⊥
 
 pub record Measured (curve : Curve) (r : LengthAnswer) : Type 0 where
-  pub refusal : First (causes (pointsOf curve)) (numberOfLength r)
+  pub refusal : First (preimage-causes (pointsOf curve)) (numberOfLength r)
   pub values : numberOfLength r ≡ 0
       → (p : Preimage) × PreimageOf (legPolynomial (pointsOf curve)) p
       × (valuesOfLength r ≡ p .square .c ∷ lengthA curve (p .square .q) ∷ lengthB curve ∷ [])
 
 pub record Inflected (curve : Curve) (r : InflectionAnswer) : Type 0 where
-  pub refusal : First (causes (pointsOf curve)) (numberOfInflections r)
+  pub refusal : First (preimage-causes (pointsOf curve)) (numberOfInflections r)
   pub values : numberOfInflections r ≡ 0 → (p : Preimage) × PreimageOf (legPolynomial (pointsOf curve)) p × Inflects (p .w) r

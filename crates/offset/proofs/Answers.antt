@@ -12,28 +12,28 @@ use lib.ListN.{length}
 use Rattle.refusal.specs.declared.Refusal.{Refusal}
 use Rattle.refusal.specs.declared.Refusal.the-variants as R
 use Rattle.refusal.specs.Table.{Cause, First, numberOf}
-use Rattle.refusal.proofs.Laws.{number-positive}
+use Rattle.refusal.proofs.Laws.{number-positive, first-kept, first-after}
 use Rattle.whole.specs.Area.{Cleared, Fills}
 use Rattle.whole.specs.Number.{Within}
+use Rattle.whole.proofs.Areas.{fills-none}
 use Rattle.pair.specs.declared.Pair.{Pair}
 use Rattle.root.specs.declared.Quartic.{Quartic}
 use Rattle.root.specs.Roots.{quartic}
 use Rattle.curve.specs.declared.Curve.{Curve}
 use Rattle.curve.specs.declared.Preimage.{Preimage}
 use Rattle.curve.specs.declared.PreimageAnswer.the-variants as P
-use Rattle.curve.specs.Curves.{InRange, pointsOf, legPolynomial}
-use Rattle.curve.specs.Promise.{out-of-range, still, not-ph, no-preimage, Preimaged}
+use Rattle.curve.specs.Curves.{pointsOf, legPolynomial}
+use Rattle.curve.specs.Promise.{still, not-ph, no-preimage, preimage-causes, Preimaged}
 use Rattle.curve.proofs.LegPolynomial.{pointsOf-length}
 use Rattle.curve.proofs.Sizes.{root-size}
 use Rattle.curve.proofs.Once.{preimage-once}
+use Rattle.curve.proofs.FoundSizes.{found-in-range}
 use Rattle.offset.specs.declared.Denominator.{Denominator}
 use Rattle.offset.specs.declared.Denominator.the-variants as W
 use Rattle.offset.specs.declared.OffsetAnswer.{OffsetAnswer}
 use Rattle.offset.specs.declared.OffsetAnswer.the-variants.{Refused}
 use Rattle.offset.specs.Offsets.{offsetCurve, offsetNumbers, beyond, no-root, no-room, numberOfOffset, OffsetBy}
 use Rattle.offset.specs.Steps.{RootAsked, IsRooted, Denominated, PutIn}
-use Rattle.offset.proofs.Areas.{fills-none}
-use Rattle.offset.proofs.Causes.{first-kept, first-after, range-stable}
 
 some : (r : Refusal) → numberOf r ≡ 0 → ⊥
 some r e = omega (arith, number-positive r)
@@ -42,23 +42,12 @@ module _ (curve : Curve) where
   abbrev ps : List Pair
   ps = pointsOf curve
 
-  -- the causes of the pre-image, with those of the curve's range alone and with h
-  abbrev causes : Cause → List Cause
-  causes range = range ∷ still ps ∷ not-ph ps ∷ no-preimage ps ∷ []
-
   -- ---- a curve with a pre-image
   module _ (p : Preimage) (i : Preimaged ps (P.Found p)) where
-    in-range : InRange ps
-    in-range = range-stable ps (by (i .refusal))
-      where
-        by : First (causes (out-of-range ps)) 0 → (InRange ps → ⊥) → ⊥
-        by (inl f) = absurd (omega (arith, f .1))
-        by (inr f) = f .0
-
     pub root-asked : RootAsked (p .square)
     root-asked =
         let s = i .preimage refl .square-of in
-        record { positive = s .positive; small = root-size ps in-range (pointsOf-length curve) (p .square .c) (quartic (p .square .q)) (s .positive) (s .squared) }
+        record { positive = s .positive; small = root-size ps (found-in-range ps p i) (pointsOf-length curve) (p .square .c) (quartic (p .square .q)) (s .positive) (s .squared) }
 
   -- ---- W
   module _ (h : ℤ) where
@@ -66,28 +55,32 @@ module _ (curve : Curve) where
     denominated-beyond n = record { refusal = inl (λ both. n (both .1), refl); gives = λ e. absurd (omega arith) }
 
     module _ (w : Within 20000 h) where
-      with-h : (n : ℕ) → First (causes (out-of-range ps)) n → First (causes (beyond curve h)) n
+      -- the causes of the pre-image, with h in the range
+      abbrev causes : List Cause
+      causes = beyond curve h ∷ still ps ∷ not-ph ps ∷ no-preimage ps ∷ []
+
+      with-h : (n : ℕ) → First (preimage-causes ps) n → First causes n
       with-h n (inl f) = inl (λ both. f .0 (both .0), f .1)
       with-h n (inr f) = inr (λ out. f .0 (λ r. out (r, w)), f .1)
 
       pub denominated-refused : (r : Refusal) → Preimaged ps (P.Refused r) → Denominated curve h (W.Refused r)
       denominated-refused r i = record {
-        refusal = first-kept (causes (beyond curve h)) (no-root ps ∷ []) (numberOf r) (with-h (numberOf r) (i .refusal)) (some r);
+        refusal = first-kept causes (no-root ps ∷ []) (numberOf r) (with-h (numberOf r) (i .refusal)) (some r);
         gives = λ e. absurd (some r e);
       }
 
       pub denominated-found : (p : Preimage) → Preimaged ps (P.Found p) → (r : Denominator) → IsRooted (p .square) r → Denominated curve h r
       denominated-found p i (W.Found v) m = record {
-        refusal = first-after (causes (beyond curve h)) (no-root ps ∷ []) 0 (with-h 0 (i .refusal)) (inr (λ none. none p (m .m) (i .preimage refl) (m .root), refl));
+        refusal = first-after causes (no-root ps ∷ []) 0 (with-h 0 (i .refusal)) (inr (λ none. none p (m .m) (i .preimage refl) (m .root), refl));
         gives = λ e. record {
-          asked = record { range = in-range p i; h-small = w; w-small = m .small };
+          asked = record { range = found-in-range ps p i; h-small = w; w-small = m .small };
           preimage = p;
           is-preimage = i .preimage refl;
           rooted = m;
         };
       }
       denominated-found p i (W.Refused r) m = record {
-        refusal = first-after (causes (beyond curve h)) (no-root ps ∷ []) (numberOf r) (with-h 0 (i .refusal)) (inl (none, ap numberOf (m .0)));
+        refusal = first-after causes (no-root ps ∷ []) (numberOf r) (with-h 0 (i .refusal)) (inl (none, ap numberOf (m .0)));
         gives = λ e. absurd (some r e);
       }
         where
@@ -99,7 +92,7 @@ module _ (curve : Curve) where
     offset-refused r before after i z l = record {
       refusal = first-kept (beyond curve h ∷ still ps ∷ not-ph ps ∷ no-preimage ps ∷ no-root ps ∷ []) (no-room curve (length before) ∷ []) (numberOf r) (i .refusal) (some r);
       same-room = l;
-      cleared = λ n. fills-none before after z;
+      cleared = λ n. fills-none before z;
       written = λ e. absurd (some r e);
     }
 

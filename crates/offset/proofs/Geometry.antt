@@ -5,7 +5,7 @@
 --   offset-blended       the numbers are the Bernstein coefficients of W, X and Y, times the scale
 use mathlib.Core.Path.{_≡_, refl, sym, ap, ap₂, _∙_}
 use mathlib.Core.List.{List, [], _∷_, map}
-use Prim.Native.Nat.{ℕ, zero, suc, _+_, _*_, _-_, _≤_}
+use Prim.Native.Nat.{ℕ, zero, suc, _+_, _-_, _≤_}
 use native.Mathlib.Omega.{arith}
 use lib.IntN.{ℤ, pos, negsuc, negℤ, natAbs, _+ℤ_, _*ℤ_, *ℤ-zero}
 use lib.ListN.{length}
@@ -25,8 +25,8 @@ use Rattle.curve.specs.declared.Curve.the-variants.{Cubic, Quintic}
 use Rattle.curve.specs.Curves.{pointsOf, powerForm, legPolynomial, reals, imaginaries, squaredLength}
 use Rattle.curve.proofs.LegPolynomial.{Part, re-part, im-part, legPolynomial-above}
 use Rattle.curve.proofs.Lengths.{squared-above}
+use Rattle.curve.proofs.Derivative.{derivative}
 use Rattle.offset.specs.Offsets.{bernstein, Rational, offsetCurve, degreeOf, scaleOf, OffsetIn}
-use Rattle.offset.proofs.Derivative.{derivative}
 use Rattle.offset.proofs.Paths.{at-part}
 use Rattle.offset.proofs.Bernstein.{bernstein-value, whole-weights}
 

@@ -2,10 +2,7 @@
 pub mod Sums
 pub mod Turns
 pub mod Products
-pub mod Derivative
 pub mod Paths
-pub mod Areas
-pub mod Causes
 pub mod Answers
 pub mod Bernstein
 pub mod Geometry

@@ -8,6 +8,7 @@ use lib.ListN.{length}
 use Rattle.refusal.proofs.Laws.{number-positive, number-once, first-once}
 use Rattle.whole.specs.Number.{wholes}
 use Rattle.whole.specs.Poly.{scaled}
+use Rattle.whole.proofs.Areas.{fills-once}
 use Rattle.pair.proofs.Laws.{root-equal}
 use Rattle.root.specs.Roots.{quartic}
 use Rattle.curve.specs.declared.Curve.{Curve}
@@ -18,13 +19,13 @@ use Rattle.curve.proofs.Once.{preimage-once}
 use Rattle.offset.specs.declared.OffsetAnswer.{OffsetAnswer}
 use Rattle.offset.specs.declared.OffsetAnswer.the-variants.{Written, Refused}
 use Rattle.offset.specs.Offsets.{offsetCurve, offsetNumbers, beyond, no-root, no-room, numberOfOffset, OffsetIn, OffsetBy}
-use Rattle.offset.proofs.Areas.{fills-once}
 
 module _ (curve : Curve) (h : ℤ) where
-  -- the numbers that two offsets hold
-  numbers-once : (a b : List ℤ) (i : OffsetIn curve h a) (j : OffsetIn curve h b)
-      → offsetNumbers curve (offsetCurve (pointsOf curve) (scaled wholes (pos (i .m)) (quartic (i .preimage .square .q))) h)
-      ≡ offsetNumbers curve (offsetCurve (pointsOf curve) (scaled wholes (pos (j .m)) (quartic (j .preimage .square .q))) h)
+  -- the numbers that an area with the offset holds
+  abbrev numbersIn : (a : List ℤ) → OffsetIn curve h a → List ℤ
+  numbersIn a i = offsetNumbers curve (offsetCurve (pointsOf curve) (scaled wholes (pos (i .m)) (quartic (i .preimage .square .q))) h)
+
+  numbers-once : (a b : List ℤ) (i : OffsetIn curve h a) (j : OffsetIn curve h b) → numbersIn a i ≡ numbersIn b j
   numbers-once a b i j =
       let p : i .preimage ≡ j .preimage = preimage-once (legPolynomial (pointsOf curve)) (i .preimage) (j .preimage) (i .is-preimage) (j .is-preimage) in
       let m : i .m ≡ j .m = root-equal (i .m) (j .m) (ap natAbs (sym (i .root) ∙ ap (λ (z : Preimage). z .square .c) p ∙ j .root)) in
@@ -33,14 +34,12 @@ module _ (curve : Curve) (h : ℤ) where
   module _ (before a b : List ℤ) where
     areas-once : (r : OffsetAnswer) → OffsetBy curve h before a r → OffsetBy curve h before b r → a ≡ b
     areas-once Written i j =
-        let s = j .written refl in
-        fills-once (offsetNumbers curve (offsetCurve (pointsOf curve) (scaled wholes (pos (s .m)) (quartic (s .preimage .square .q))) h)) a b
-        (i .same-room ∙ sym (j .same-room))
-        (rw (numbers-once a b (i .written refl) s) at (i .written refl .fills))
-        (s .fills)
+        let x = i .written refl in
+        let y = j .written refl in
+        fills-once (numbersIn a x) (numbersIn b y) (numbers-once a b x y) (i .same-room ∙ sym (j .same-room)) (x .fills) (y .fills)
     areas-once (Refused r) i j =
         let some : numberOfOffset (Refused r) ≡ 0 → ⊥ = λ e. omega (arith, number-positive r, e) in
-        fills-once [] a b (i .same-room ∙ sym (j .same-room)) (i .cleared some) (j .cleared some)
+        fills-once [] [] refl (i .same-room ∙ sym (j .same-room)) (i .cleared some) (j .cleared some)
 
     answers-once : (r s : OffsetAnswer) → numberOfOffset r ≡ numberOfOffset s → r ≡ s
     answers-once Written Written e = refl

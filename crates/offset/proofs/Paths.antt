@@ -24,9 +24,9 @@ use Rattle.curve.specs.declared.Curve.{Curve}
 use Rattle.curve.specs.declared.Curve.the-variants.{Cubic, Quintic}
 use Rattle.curve.specs.Curves.{powerForm, legPolynomial}
 use Rattle.curve.proofs.LegPolynomial.{Part}
+use Rattle.curve.proofs.Derivative.{powerForm-start, derivative}
 use Rattle.offset.specs.Offsets.{degreeOf, scaleOf}
 use Rattle.offset.specs.Steps.{PathAsked, IsPath, IsRow, Weights, IsWeighted, Weighted}
-use Rattle.offset.proofs.Derivative.{powerForm-start, derivative}
 use Rattle.offset.proofs.Products.{rowSize}
 
 -- ---- a part of r from that part of D

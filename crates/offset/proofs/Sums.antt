@@ -4,7 +4,7 @@
 --   binomialSum-next      so it is the sum of the numbers of f, each with the one above it added
 use mathlib.Core.Path.{_≡_, refl, sym, ap, _∙_, fun-ext}
 use mathlib.Core.List.{[], _∷_}
-use Prim.Native.Nat.{ℕ, zero, suc, _+_}
+use Prim.Native.Nat.{ℕ, zero, suc}
 use native.Mathlib.Omega.{arith}
 use lib.IntN.{ℤ, pos, _+ℤ_, _*ℤ_, +ℤ-assoc, +ℤ-idr, zero-*ℤ}
 use Rattle.whole.specs.Poly.{choose}

@@ -1,5 +1,10 @@
 -- Pairs as a ring, and the norm.
 --   pairs-ring               the laws; by name times-assoc, times-comm, times-one, times-plus, number-times
+--   negative-twice           −(−a) = a
+--   plus-minus               what is added is taken off again
+--   multiple-none            a multiple of 0 is 0
+--   multiple-multiple        multiples of multiples with the same factor
+--   multiple-cancel          a multiple by a positive number is cancelled
 --   norm-times               |a b|² = |a|² |b|²
 --   times-conjugate          a conj(a) = |a|²
 --   square-size, norm-size   x² and |a|² by squares of natural numbers
@@ -9,21 +14,22 @@
 use mathlib.Core.Path.{_≡_, refl, sym, ap, ap₂, _∙_}
 use mathlib.Core.List.{[], _∷_}
 use mathlib.Core.Logic.{_≢_, ⊎-map}
-use Prim.Native.Nat.{ℕ, zero, suc, _+_, _*_, _≤_}
+use Prim.Native.Nat.{ℕ, zero, suc, _+_, _*_, _≤_, _<_}
 use native.Mathlib.Nat.{le-of-eq, mul-le-mul}
 use native.Mathlib.Decide.{decLe}
 use native.Mathlib.Omega.{arith}
-use lib.IntN.{ℤ, pos, negsuc, negℤ, natAbs, _+ℤ_, _-ℤ_, _*ℤ_, +ℤ-assoc, +ℤ-comm, +ℤ-idl, +ℤ-idr, +ℤ-invl, +ℤ-invr, *ℤ-zero, zero-*ℤ}
+use lib.IntN.{ℤ, pos, negsuc, negℤ, natAbs, _+ℤ_, _-ℤ_, _*ℤ_, +ℤ-assoc, +ℤ-comm, +ℤ-idl, +ℤ-idr, +ℤ-invl, +ℤ-invr, *ℤ-zero, zero-*ℤ, negℤ-negℤ}
 use lib.Signed.{_≤ℤ_, _<ℤ_}
-use Rattle.whole.proofs.Integers.{*ℤ-1, abs-zero, *ℤ-domain}
+use Rattle.whole.proofs.Integers.{*ℤ-1, *ℤ-assoc, abs-zero, *ℤ-domain}
 use Rattle.whole.proofs.Ring.{Ring}
-use Rattle.whole.proofs.Wholes.{readℤ, atomsℤ, ringℤ}
+use Rattle.whole.proofs.Wholes.{readℤ, atomsℤ, ringℤ, *ℤ-cancel}
+use Rattle.whole.proofs.Solver.{var, _:+_, _:-_, solve}
 use Rattle.whole.proofs.Linear.{linear}
 use Rattle.whole.proofs.Order.{nonneg-plus, nonneg-square}
 use Rattle.poly.proofs.Domain.{Domain}
 use Rattle.pair.specs.declared.Pair.{Pair}
-use Rattle.pair.specs.Pairs.{pair, pairs, plus, times, negative, conjugate, norm, one}
-use Rattle.pair.proofs.Parts.{pair-equal}
+use Rattle.pair.specs.Pairs.{pair, pairs, plus, minus, times, multiple, negative, conjugate, norm, one}
+use Rattle.pair.proofs.Parts.{pair-equal, re-equal, im-equal}
 
 pub times-assoc : (a b c : Pair) → times (times a b) c ≡ times a (times b c)
 times-assoc a b c =
@@ -68,6 +74,28 @@ pairs-ring = record {
   number-plus = λ m n. refl;
   number-times = number-times;
 }
+
+-- ---- negatives and multiples
+pub negative-twice : (a : Pair) → negative (negative a) ≡ a
+negative-twice a = pair-equal (negℤ-negℤ (a .re)) (negℤ-negℤ (a .im))
+
+pub plus-minus : (a b : Pair) → minus (plus a b) a ≡ b
+plus-minus a b = solve pairs-ring (a ∷ b ∷ []) (var 0 :+ var 1 :- var 0) (var 1) tt
+
+pub multiple-none : (c : ℤ) → multiple c (pairs .none) ≡ pairs .none
+multiple-none c = pair-equal (*ℤ-zero c) (*ℤ-zero c)
+
+pub multiple-multiple : (a b c d : ℤ) (z : Pair) → a *ℤ b ≡ c *ℤ d → multiple a (multiple b z) ≡ multiple c (multiple d z)
+multiple-multiple a b c d z e = pair-equal (part (z .re)) (part (z .im))
+  where
+    part : (x : ℤ) → a *ℤ (b *ℤ x) ≡ c *ℤ (d *ℤ x)
+    part x = sym (*ℤ-assoc a b x) ∙ ap (λ t. t *ℤ x) e ∙ *ℤ-assoc c d x
+
+pub multiple-cancel : (n : ℕ) {x y : Pair} → 0 < n → multiple (pos n) x ≡ multiple (pos n) y → x ≡ y
+multiple-cancel n l e = pair-equal (*ℤ-cancel (pos n) some (re-equal e)) (*ℤ-cancel (pos n) some (im-equal e))
+  where
+    some : pos n ≢ pos 0
+    some z = omega (arith, ap natAbs z)
 
 -- ---- the norm
 pub norm-times : (a b : Pair) → norm (times a b) ≡ norm a *ℤ norm b

@@ -1,6 +1,7 @@
--- The theory of pairs: sizes, laws, division, divisors, roots, units.
+-- The theory of pairs: sizes, laws, the solver, division, divisors, roots, units.
 pub mod Parts
 pub mod Laws
+pub mod PairSolver
 pub mod Division
 pub mod Divisors
 pub mod Roots

@@ -1,26 +1,28 @@
 -- The parts of pairs, for the bounds of signed code.
 --   parts, parts-two     a pair's parts, or two pairs', as bounded numbers for `bounds`
 --   operations           rules for `search`: a sum, difference, negative or product of two numbers that are known to be small fits
---   pair-equal           two pairs with equal parts are equal
+--   pair-equal           two pairs with equal parts are equal,
+--   re-equal, im-equal   and the parts of equal pairs are
 --   turned-parts         the parts of i a
 --   zero-within          0 is within every bound
 --   wider                a bound may be taken larger
---   conjugate-within, times-within       bounds of a conjugate and of a product
-use mathlib.Core.Path.{_≡_, refl, ap₂, _∙_}
+--   conjugate-within, negative-within, turned-within       a conjugate, −a and i a are no larger than a
+--   plus-within, minus-within, times-within, multiple-within       bounds of a sum, a difference, a product and a multiple
+use mathlib.Core.Path.{_≡_, refl, ap, ap₂, _∙_}
 use mathlib.Core.List.{[], _∷_}
 use Prim.Native.Nat.{ℕ, _+_, _*_, _^_, _≤_, zero-le}
-use native.Mathlib.Nat.{le-refl, le-trans, le-of-eq}
+use native.Mathlib.Nat.{le-refl, le-trans, le-of-eq, mul-le-mul}
 use borrow.Author.Needs.{needs}
 use borrow.Author.Tests.{le-leb}
 use lib.IntN.{ℤ, pos, negℤ, _+ℤ_, _-ℤ_, _*ℤ_, +ℤ-idl, *ℤ-comm, zero-*ℤ}
 use mir.Syntax.{w64}
 use mir.Val.{SFits, toZ, ofZ}
 use Rattle.whole.specs.Number.{Within}
-use Rattle.whole.proofs.Integers.{*ℤ-1, abs-negative}
+use Rattle.whole.proofs.Integers.{*ℤ-1, abs-negative, abs-times}
 use Rattle.whole.proofs.Wholes.{readℤ}
 use Rattle.whole.proofs.Bound.{Bounded, done, _▸_, bounds, within, fits, kept}
 use Rattle.pair.specs.declared.Pair.{Pair}
-use Rattle.pair.specs.Pairs.{pair, pairs, times, conjugate, imaginary, PartsWithin}
+use Rattle.pair.specs.Pairs.{pair, pairs, plus, minus, negative, times, multiple, conjugate, imaginary, PartsWithin}
 
 pub parts : {B : ℕ} {a : Pair} → PartsWithin B a → Bounded (B ∷ B ∷ []) (a .re ∷ a .im ∷ [])
 parts h = h .re ▸ h .im ▸ done
@@ -46,6 +48,12 @@ pub ruleset operations = (needs, sum-fits, difference-fits, negative-fits, produ
 pub pair-equal : {a b : Pair} → a .re ≡ b .re → a .im ≡ b .im → a ≡ b
 pair-equal p q = λ i. record { re = p i; im = q i }
 
+pub re-equal : {a b : Pair} → a ≡ b → a .re ≡ b .re
+re-equal e = ap (λ (p : Pair). p .re) e
+
+pub im-equal : {a b : Pair} → a ≡ b → a .im ≡ b .im
+im-equal e = ap (λ (p : Pair). p .im) e
+
 pub turned-parts : (a : Pair) → times imaginary a ≡ pair (negℤ (a .im)) (a .re)
 turned-parts a =
     pair-equal
@@ -63,6 +71,33 @@ wider l h = record { re = record { size = le-trans (h .re .size) l }; im = recor
 
 pub conjugate-within : {B : ℕ} {a : Pair} → PartsWithin B a → PartsWithin B (conjugate a)
 conjugate-within {a} h = record { re = h .re; im = record { size = le-trans (le-of-eq (abs-negative (a .im))) (h .im .size) } }
+
+pub negative-within : {B : ℕ} {a : Pair} → PartsWithin B a → PartsWithin B (negative a)
+negative-within {a} h = record {
+  re = record { size = le-trans (le-of-eq (abs-negative (a .re))) (h .re .size) };
+  im = record { size = le-trans (le-of-eq (abs-negative (a .im))) (h .im .size) };
+}
+
+pub turned-within : {B : ℕ} {a : Pair} → PartsWithin B a → PartsWithin B (times imaginary a)
+turned-within {a} h = rw (turned-parts a) (record { re = negative-within h .im; im = h .re })
+
+pub plus-within : {B C : ℕ} {a b : Pair} → PartsWithin B a → PartsWithin C b → PartsWithin (B + C) (plus a b)
+plus-within {B} {C} h k = record {
+  re = bounds (parts-two h k) (λ ρ e k. simp (e 0, e 2, readℤ) (within k _ (le-leb (B + C) _ (le-refl (B + C)))));
+  im = bounds (parts-two h k) (λ ρ e k. simp (e 1, e 3, readℤ) (within k _ (le-leb (B + C) _ (le-refl (B + C)))));
+}
+
+pub minus-within : {B C : ℕ} {a b : Pair} → PartsWithin B a → PartsWithin C b → PartsWithin (B + C) (minus a b)
+minus-within {B} {C} h k = record {
+  re = bounds (parts-two h k) (λ ρ e k. simp (e 0, e 2, readℤ) (within k _ (le-leb (B + C) _ (le-refl (B + C)))));
+  im = bounds (parts-two h k) (λ ρ e k. simp (e 1, e 3, readℤ) (within k _ (le-leb (B + C) _ (le-refl (B + C)))));
+}
+
+pub multiple-within : {B : ℕ} {a : Pair} (n : ℕ) → PartsWithin B a → PartsWithin (n * B) (multiple (pos n) a)
+multiple-within {B} {a} n h = record { re = part (a .re) (h .re); im = part (a .im) (h .im) }
+  where
+    part : (x : ℤ) → Within B x → Within (n * B) (pos n *ℤ x)
+    part x h = record { size = le-trans (le-of-eq (abs-times (pos n) x)) (mul-le-mul (le-refl n) (h .size)) }
 
 pub times-within : {B C : ℕ} {a b : Pair} → PartsWithin B a → PartsWithin C b → PartsWithin (B * C + B * C) (times a b)
 times-within {B} {C} h k = record {

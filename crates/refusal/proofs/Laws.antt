@@ -2,8 +2,11 @@
 --   number-positive  no refusal has the number 0, which stands for an answer
 --   number-once      a number names one refusal
 --   first-once       a call's causes leave one number
+--   NoneHolds, first-none     where that number is 0, no cause holds
+--   first-kept       a refusal stands, whatever causes come behind
+--   first-after      where no cause of the first order holds, the second decides
 use mathlib.Core.Path.{_≡_, refl, sym, ap, _∙_}
-use mathlib.Core.List.{List, [], _∷_}
+use mathlib.Core.List.{List, [], _∷_, _++_}
 use mathlib.Core.Logic.{inl, inr}
 use Prim.Native.Nat.{ℕ, _<_}
 use native.Mathlib.Omega.{arith}
@@ -59,3 +62,22 @@ first-once (c ∷ cs) m n (inl p) (inl q) = p .1 ∙ sym (q .1)
 first-once (c ∷ cs) m n (inl p) (inr q) = absurd (q .0 (p .0))
 first-once (c ∷ cs) m n (inr p) (inl q) = absurd (p .0 (q .0))
 first-once (c ∷ cs) m n (inr p) (inr q) = first-once cs m n (p .1) (q .1)
+
+abbrev pub NoneHolds : List Cause → Type 0
+NoneHolds [] = Unit {0}
+NoneHolds (c ∷ cs) = (c .holds → ⊥) × NoneHolds cs
+
+pub first-none : (cs : List Cause) → First cs 0 → NoneHolds cs
+first-none [] f = tt
+first-none (c ∷ cs) (inl f) = absurd (omega (arith, number-positive (c .refusal), f .1))
+first-none (c ∷ cs) (inr f) = (f .0, first-none cs (f .1))
+
+pub first-kept : (cs ds : List Cause) (n : ℕ) → First cs n → (n ≡ 0 → ⊥) → First (cs ++ ds) n
+first-kept [] ds n f p = absurd (p f)
+first-kept (c ∷ cs) ds n (inl f) p = inl f
+first-kept (c ∷ cs) ds n (inr f) p = inr (f .0, first-kept cs ds n (f .1) p)
+
+pub first-after : (cs ds : List Cause) (n : ℕ) → First cs 0 → First ds n → First (cs ++ ds) n
+first-after [] ds n f g = g
+first-after (c ∷ cs) ds n (inl f) g = absurd (omega (arith, number-positive (c .refusal), f .1))
+first-after (c ∷ cs) ds n (inr f) g = inr (f .0, first-after cs ds n (f .1) g)

@@ -7,6 +7,7 @@
 --   fits k _ refl     what has been read fits its width
 --   within k _ refl   what has been read is at most a bound
 --   abs-plus          the triangle inequality
+--   within-stable     what is not out of its bound is within it
 --   fits-within, within-fits      what a bound says of the width, and the other way
 --   read-back tt h    a number with a bound is read back from the bits of an i64
 -- A need of `x * y - 3 * z`, whatever stands between, is one line, and so is what the code returns (`simp` closes an equation by itself).
@@ -15,7 +16,9 @@
 use mathlib.Core.Path.{_≡_, sym, subst}
 use mathlib.Core.Bool.{true}
 use mathlib.Core.List.{List, [], _∷_}
+use mathlib.Core.Logic.{Dec·not-not}
 use Prim.Native.Nat.{ℕ, zero, suc, _+_, _*_, _^_, _≤_, _<_, zero-le}
+use native.Mathlib.Decide.{decLe}
 use native.Mathlib.Nat.{le-refl, le-trans, le-of-eq, add-le-add, mul-le-mul}
 use lib.Dec.{T, leb, ltb, ltb→lt}
 use lib.IntN.{ℤ, natAbs, _+ℤ_}
@@ -69,6 +72,9 @@ val-bound : {Bs : List ℕ} {ρ : List ℤ} → Bounded Bs ρ → (e : Ex) → n
 val-bound {Bs} {ρ} k e = subst (λ z. natAbs z ≤ bound Bs e) (sym (val-is wholes-ring ρ e)) (eval-bound k e)
 
 -- ---- widths
+pub within-stable : {b : ℕ} {x : ℤ} → ((Within b x → ⊥) → ⊥) → Within b x
+within-stable {b} {x} h = record { size = Dec·not-not (decLe (natAbs x) b) .0 (λ n. h (λ w. n (w .size))) }
+
 pub fits-within : {w : Width} {b : ℕ} {x : ℤ} → b < 2 ^ hbits w → Within b x → SFits w x
 fits-within {x} l h = omega (linear, h .size, abs-parts x)
 

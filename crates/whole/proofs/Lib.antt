@@ -5,10 +5,13 @@ pub mod Solver
 pub mod Wholes
 pub mod Linear
 pub mod Order
+pub mod Signs
 pub mod Bound
 pub mod Machine
 pub mod Division
 pub mod Divisor
 pub mod Fill
+pub mod Areas
+pub mod Flags
 pub mod Squares
 mod Examples

@@ -1,6 +1,6 @@
 -- `build::all_zero` meets its contract.
 use borrow.Author.Needs.{needs}
-use Rattle.curve.proofs.Flags.{told, untold}
+use Rattle.whole.proofs.Flags.{told, untold}
 use Rattle.build.proofs.Triples.{all-none}
 use Rattle.build.proofs.all_zero.Statement.{statement}
 use Rattle.build.proofs.all_zero.Tie as tie

@@ -1,6 +1,6 @@
 -- `build::allowed` meets its contract.
 use borrow.Author.Needs.{needs}
-use Rattle.curve.proofs.Flags.{told, untold}
+use Rattle.whole.proofs.Flags.{told, untold}
 use Rattle.build.proofs.Triples.{all-within}
 use Rattle.build.proofs.allowed.Statement.{statement}
 use Rattle.build.proofs.allowed.Tie as tie

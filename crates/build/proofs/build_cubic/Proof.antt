@@ -2,8 +2,8 @@
 use mathlib.Core.Path.{refl, subst}
 use borrow.Author.Needs.{needs}
 use Rattle.whole.specs.Number.{Tells}
+use Rattle.whole.proofs.Flags.{told, untold}
 use Rattle.pair.specs.declared.Pair.{Pair}
-use Rattle.curve.proofs.Flags.{told, untold}
 use Rattle.build.specs.Builds.{Source, cubic, given, Allowed, AllZero}
 use Rattle.build.proofs.Triples.{allowed-two, none-two}
 use Rattle.build.proofs.Answers.{refused-range, refused-still, answered}

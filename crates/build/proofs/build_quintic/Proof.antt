@@ -3,9 +3,9 @@ use mathlib.Core.Path.{_≡_, refl, subst}
 use borrow.Author.Needs.{needs}
 use lib.IntN.{pos}
 use Rattle.whole.specs.Number.{Tells}
+use Rattle.whole.proofs.Flags.{told, untold}
 use Rattle.pair.specs.declared.Pair.{Pair}
 use Rattle.pair.specs.Pairs.{multiple}
-use Rattle.curve.proofs.Flags.{told, untold}
 use Rattle.build.specs.Builds.{Source, quintic, given, thrice, Allowed}
 use Rattle.build.specs.Steps.{IsThird}
 use Rattle.build.proofs.Sizes.{thrice-within, third-within}

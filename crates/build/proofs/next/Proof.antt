@@ -3,8 +3,7 @@ use mathlib.Core.Path.{_≡_, ap, _∙_}
 use native.Mathlib.Omega.{arith}
 use borrow.Author.Needs.{needs}
 use Rattle.pair.specs.Pairs.{plus, times}
-use Rattle.pair.proofs.Parts.{wider, times-within}
-use Rattle.build.proofs.Lower.{plus-within}
+use Rattle.pair.proofs.Parts.{wider, times-within, plus-within}
 use Rattle.build.proofs.next.Statement.{statement}
 use Rattle.build.proofs.next.Tie as tie
 

@@ -2,8 +2,7 @@
 use native.Mathlib.Omega.{arith}
 use borrow.Author.Needs.{needs}
 use Rattle.pair.specs.Pairs.{PartsWithin}
-use Rattle.pair.proofs.Parts.{wider}
-use Rattle.build.proofs.Lower.{plus-within}
+use Rattle.pair.proofs.Parts.{wider, plus-within}
 use Rattle.build.proofs.Legs.{points-on, points-end}
 use Rattle.build.proofs.quintic_points.Statement.{statement}
 use Rattle.build.proofs.quintic_points.Tie as tie

@@ -4,8 +4,7 @@ use native.Mathlib.Omega.{arith}
 use borrow.Author.Needs.{needs}
 use lib.IntN.{pos}
 use Rattle.pair.specs.Pairs.{plus, multiple, PartsWithin}
-use Rattle.pair.proofs.Parts.{wider, times-within}
-use Rattle.build.proofs.Lower.{multiple-within}
+use Rattle.pair.proofs.Parts.{wider, times-within, multiple-within}
 use Rattle.build.proofs.thrice_middle.Statement.{statement}
 use Rattle.build.proofs.thrice_middle.Tie as tie
 

@@ -3,9 +3,9 @@ use mathlib.Core.Path.{refl}
 use mathlib.Core.Logic.{inl, inr}
 use native.Mathlib.Omega.{arith}
 use borrow.Author.Needs.{needs}
+use Rattle.whole.proofs.Flags.{told, untold}
 use Rattle.curve.specs.Curves.{pointsOf, legPolynomial}
 use Rattle.curve.specs.Steps.{polynomial}
-use Rattle.curve.proofs.Flags.{told, untold}
 use Rattle.curve.proofs.Known.{holds-same, holds-number}
 use Rattle.curve.proofs.LegPolynomial.{pointsOf-length}
 use Rattle.curve.proofs.recognise.Statement.{statement}

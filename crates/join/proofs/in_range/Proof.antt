@@ -1,6 +1,6 @@
 -- `join::in_range` meets its contract.
 use borrow.Author.Needs.{needs}
-use Rattle.curve.proofs.Flags.{told, untold}
+use Rattle.whole.proofs.Flags.{told, untold}
 use Rattle.join.proofs.in_range.Statement.{statement}
 use Rattle.join.proofs.in_range.Tie as tie
 

@@ -13,12 +13,12 @@ use Rattle.refusal.specs.Table.{First, numberOf}
 use Rattle.refusal.proofs.Laws.{number-positive}
 use Rattle.whole.specs.Area.{Cleared}
 use Rattle.whole.specs.Number.{Tells}
-use Rattle.curve.proofs.Flags.{told, untold}
+use Rattle.whole.proofs.Flags.{told, untold}
+use Rattle.whole.proofs.Areas.{fills-rest, fills-none}
 use Rattle.pair.specs.declared.Pair.{Pair}
 use Rattle.join.specs.declared.JoinAnswer.{JoinAnswer}
 use Rattle.join.specs.declared.JoinAnswer.the-variants as answers
 use Rattle.join.specs.Listing.{InRange, DeadEnd, Joined, causes, numbers}
-use Rattle.join.proofs.Areas.{fills-rest, fills-none}
 use Rattle.join.proofs.Writing.{numbers-length}
 use Rattle.join.proofs.joins.Statement.{statement}
 use Rattle.join.proofs.joins.Tie as tie
@@ -132,7 +132,7 @@ returns-4 c =
         triples = w .triples;
         all = w .lists;
         counted = omega (arith, w .next-is);
-        filled = fills-rest k (numbers (w .triples)) (start .0) (p .put-all .last .0) (c .before .clear .last .0) behind (start .1) (c .before .clear .ensures) (c .area5 .given .1);
+        filled = fills-rest k (numbers (w .triples)) (start .0) (p .put-all .last .0) (c .before .clear .last .0) behind (start .1) (c .before .clear .ensures);
       };
     }
 

@@ -9,11 +9,10 @@ use lib.ListN.{length}
 use Rattle.pair.specs.declared.Pair.{Pair}
 use Rattle.pair.specs.Pairs.{pairs, plus, minus, times, multiple, PartsWithin}
 use Rattle.pair.specs.Roots.{KeptRoot, IsPairRoot}
-use Rattle.pair.proofs.Parts.{wider}
-use Rattle.root.proofs.Quadratics.{plus-within, minus-within}
+use Rattle.pair.proofs.Parts.{wider, plus-within, minus-within, negative-within}
+use Rattle.pair.proofs.Roots.{pair-root-within}
 use Rattle.join.specs.Steps.{Half, Sized}
 use Rattle.join.proofs.Centres.{rest, halves-join, join-halves, ends-below}
-use Rattle.join.proofs.Pairs.{root-within, negative-within}
 use Rattle.join.proofs.Sizes.{rest-within}
 use Rattle.join.proofs.Writing.{writes-none, writes-both, writes-as, writes-same}
 use Rattle.join.proofs.put_all.Statement.{statement}
@@ -79,10 +78,10 @@ module _ (c : tie.After-known-told2) where
   r-some e = s .pre .1 (inr (sym (last .squared) ∙ ap (λ (w : Pair). times w w) e))
 
   w0-within : PartsWithin 200 w0
-  w0-within = root-within 40000 200 a w0 (s .pre .0 .first) (first .squared) (omega arith) (omega arith)
+  w0-within = pair-root-within 40000 200 a w0 (s .pre .0 .first) (first .squared) (omega arith) (omega arith)
 
   r-within : PartsWithin 200 r
-  r-within = root-within 40000 200 z r (s .pre .0 .last) (last .squared) (omega arith) (omega arith)
+  r-within = pair-root-within 40000 200 z r (s .pre .0 .last) (last .squared) (omega arith) (omega arith)
 
 sum-requires : tie.Need-sum-requires
 sum-requires c κs = search needs

@@ -8,12 +8,11 @@ use Rattle.whole.specs.Number.{Tells}
 use Rattle.pair.specs.declared.Pair.{Pair}
 use Rattle.pair.specs.Pairs.{pairs, minus, negative, multiple, PartsWithin}
 use Rattle.pair.specs.Roots.{KeptRoot, IsPairRoot}
-use Rattle.pair.proofs.Parts.{wider}
-use Rattle.root.proofs.Quadratics.{plus-within}
+use Rattle.pair.proofs.Parts.{wider, plus-within, negative-within}
+use Rattle.pair.proofs.Roots.{pair-root-within}
 use Rattle.join.specs.Listing.{Triple}
 use Rattle.join.specs.Steps.{shift, discriminant, centre, Sized, Quartered}
 use Rattle.join.proofs.Centres.{quarters-half, half-quarters, quarters-below}
-use Rattle.join.proofs.Pairs.{root-within, negative-within}
 use Rattle.join.proofs.Sizes.{shift-within, discriminant-within}
 use Rattle.join.proofs.Writing.{writes-none, writes-both, writes-as}
 use Rattle.join.proofs.put_half.Statement.{statement}
@@ -80,7 +79,7 @@ module _ (c : tie.After-known-told) where
   δ-root = rw (c .before .before .before .before .square-of .ensures) at (subst (IsPairRoot _) (c .before .d .given .1) (c .before .before .before .root .ensures))
 
   δ-within : PartsWithin 3000 δ
-  δ-within = root-within 9000000 3000 (discriminant (m t) (w0 t) (w2 t)) δ (discriminant-within (m t) (w0 t) (w2 t) (sized t)) (δ-root .squared) (omega arith) (omega arith)
+  δ-within = pair-root-within 9000000 3000 (discriminant (m t) (w0 t) (w2 t)) δ (discriminant-within (m t) (w0 t) (w2 t) (sized t)) (δ-root .squared) (omega arith) (omega arith)
 
 negative-requires : tie.Need-negative-requires
 negative-requires c κs = wider (omega arith) (δ-within c)

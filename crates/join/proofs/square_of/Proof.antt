@@ -5,9 +5,8 @@ use borrow.Author.Needs.{needs}
 use lib.IntN.{pos}
 use Rattle.pair.specs.declared.Pair.{Pair}
 use Rattle.pair.specs.Pairs.{plus, minus, times, multiple, PartsWithin}
-use Rattle.pair.proofs.Parts.{wider, times-within}
-use Rattle.root.proofs.Quadratics.{plus-within}
-use Rattle.join.proofs.Sizes.{shift-within, eight-within}
+use Rattle.pair.proofs.Parts.{wider, times-within, plus-within, multiple-within}
+use Rattle.join.proofs.Sizes.{shift-within}
 use Rattle.join.proofs.square_of.Statement.{statement}
 use Rattle.join.proofs.square_of.Tie as tie
 
@@ -35,7 +34,7 @@ product-requires-2 c κs = let s = c .before .before .before in (wider (omega ar
 difference-requires : tie.Need-difference-requires
 difference-requires c κs = (
   rw (c .product2 .ensures) (let h = s-within (c .before .before .before .before) in wider (omega arith) (times-within h h)),
-  rw (c .before .multiple .ensures) (wider (omega arith) (eight-within (sum-within (c .before .before)))),
+  rw (c .before .multiple .ensures) (wider (omega arith) (multiple-within 8 (sum-within (c .before .before)))),
 )
 
 returns : tie.Need-returns

@@ -9,10 +9,10 @@ use Rattle.curve.specs.declared.PreimageAnswer.the-variants.{Found}
 use Rattle.curve.specs.Curves.{pointsOf}
 use Rattle.curve.specs.Promise.{Preimaged}
 use Rattle.curve.proofs.LegPolynomial.{pointsOf-length}
+use Rattle.curve.proofs.FoundSizes.{preimage-small}
 use Rattle.measure.specs.declared.InflectionAnswer.{InflectionAnswer}
 use Rattle.measure.specs.declared.InflectionAnswer.the-variants as I
 use Rattle.measure.specs.Promises.{Inflects, Inflected}
-use Rattle.measure.proofs.Sizes.{preimage-small}
 use Rattle.measure.proofs.inflections.Statement.{statement}
 use Rattle.measure.proofs.inflections.Tie as tie
 
@@ -26,7 +26,7 @@ inflections-by-requires : tie.Need-inflections-by-requires
 inflections-by-requires c κs =
     let curve = c .before .before .before .before .args .curve in
     let p = c .before .p .given .0 .0 in
-    preimage-small (pointsOf curve) (pointsOf-length curve) p (subst (Preimaged (pointsOf curve)) (c .before .p .given .1) (c .before .before .before .preimage-of .ensures))
+    preimage-small (pointsOf curve) p (subst (Preimaged (pointsOf curve)) (c .before .p .given .1) (c .before .before .before .preimage-of .ensures)) (pointsOf-length curve)
 
 enum-known-r : tie.Need-enum-known-r
 enum-known-r c = search needs

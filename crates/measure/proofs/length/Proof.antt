@@ -6,8 +6,8 @@ use Rattle.refusal.proofs.Laws.{number-positive}
 use Rattle.curve.specs.Curves.{pointsOf}
 use Rattle.curve.specs.Promise.{Preimaged}
 use Rattle.curve.proofs.LegPolynomial.{pointsOf-length}
+use Rattle.curve.proofs.FoundSizes.{root-small}
 use Rattle.measure.specs.Promises.{Measured}
-use Rattle.measure.proofs.Sizes.{root-small}
 use Rattle.measure.proofs.length.Statement.{statement}
 use Rattle.measure.proofs.length.Tie as tie
 
@@ -21,7 +21,7 @@ length-by-requires : tie.Need-length-by-requires
 length-by-requires c κs =
     let curve = c .before .before .before .before .args .curve in
     let p = c .before .p .given .0 .0 in
-    root-small (pointsOf curve) (pointsOf-length curve) p (subst (Preimaged (pointsOf curve)) (c .before .p .given .1) (c .before .before .before .preimage-of .ensures))
+    root-small (pointsOf curve) p (subst (Preimaged (pointsOf curve)) (c .before .p .given .1) (c .before .before .before .preimage-of .ensures)) (pointsOf-length curve)
 
 enum-known-r : tie.Need-enum-known-r
 enum-known-r c = search needs

@@ -1,6 +1,6 @@
 -- `offset::put_offset` meets its contract: the start of the area is lent to the writer, and the rest to the clearing routine.
-use mathlib.Core.Path.{_≡_, refl, sym, _∙_}
-use mathlib.Core.List.{List}
+use mathlib.Core.Path.{_≡_, refl, sym, ap, _∙_}
+use mathlib.Core.List.{List, _++_}
 use mathlib.Core.Logic.{inl, inr}
 use Prim.Native.Nat.{ℕ, suc, _*_, _≤_}
 use native.Mathlib.Omega.{arith}
@@ -10,11 +10,11 @@ use lib.ListN.{length, take, drop}
 use lib.Seq.{length-take-le}
 use mir.Syntax.{w64}
 use mir.ValLaws.{toZ-ofZ}
+use Rattle.whole.proofs.Areas.{fills-none, fills-rest}
 use Rattle.root.specs.Roots.{quartic}
 use Rattle.curve.specs.Curves.{pointsOf}
-use Rattle.offset.specs.Offsets.{degreeOf, offsetCurve}
+use Rattle.offset.specs.Offsets.{degreeOf, offsetCurve, offsetNumbers}
 use Rattle.offset.specs.Steps.{RowsOf}
-use Rattle.offset.proofs.Areas.{fills-none, fills-rest}
 use Rattle.offset.proofs.Turns.{few-points, rows-numbers}
 use Rattle.offset.proofs.put_offset.Statement.{statement}
 use Rattle.offset.proofs.put_offset.Tie as tie
@@ -38,7 +38,7 @@ returns c =
     record {
       refusal = inl (omega (arith, k .if1 .taken, k .before .points-of .ensures), refl);
       same-room = same-length c;
-      cleared = λ n. fills-none (o .args .area .now) (c .before .clear .last .0) (c .before .clear .ensures);
+      cleared = λ n. fills-none (o .args .area .now) (c .before .clear .ensures);
       written = λ e. absurd (omega arith);
     }
 
@@ -107,12 +107,15 @@ returns-2 : tie.Need-returns-2
 returns-2 c =
     let t = c .before .before .before .before in
     let k = t .before .before in
-    let numbers = t .put-points .ensures ∙ rows-numbers (o k .args .curve) (k .rows .result) (made k) (points-are k) in
+    let s = o k .args in
+    let vs = offsetNumbers (s .curve) (offsetCurve (pointsOf (s .curve)) (quartic (s .w)) (s .h)) in
+    let rest = drop (3 * points k) (area k) in
+    let is : t .put-points .last .0 ≡ vs = t .put-points .ensures ∙ rows-numbers (s .curve) (k .rows .result) (made k) (points-are k) in
     record {
       refusal = inr (λ l. omega (arith, room k, points-are k), refl);
       same-room = same-length-2 c;
       cleared = λ n. absurd (n refl);
-      written = λ e. fills-rest (3 * points k) _ (t .put-points .last .0) (drop (3 * points k) (area k)) (c .before .clear2 .last .0) numbers (sym (t .put-points .kept .0 ∙ start-long k)) (c .before .clear2 .ensures);
+      written = λ e. fills-rest (3 * points k) vs rest (t .put-points .last .0 ++ rest) (c .before .clear2 .last .0) (sym (t .put-points .kept .0 ∙ start-long k) ∙ ap length is) (ap (λ (us : List ℤ). us ++ rest) is) (c .before .clear2 .ensures);
     }
 
 pub put-offset-spec : {M : Type 1} → statement M

@@ -3,12 +3,12 @@ use Prim.Native.Nat.{zero, suc}
 use native.Mathlib.Omega.{arith}
 use borrow.Author.Needs.{needs}
 use Rattle.whole.specs.Poly.{at}
+use Rattle.whole.proofs.Flags.{told, untold}
 use Rattle.poly.specs.Terms.{Above}
 use Rattle.poly.proofs.Top.{length-above, above-lowered}
 use Rattle.pair.specs.Pairs.{pairs}
 use Rattle.root.specs.declared.pairs.Five.{Five}
 use Rattle.root.specs.Pairs.{five}
-use Rattle.curve.proofs.Flags.{told, untold}
 use Rattle.curve.proofs.drawing.degree.Statement.{statement}
 use Rattle.curve.proofs.drawing.degree.Tie as tie
 

@@ -5,13 +5,13 @@ use native.Mathlib.Omega.{arith}
 use borrow.Author.Needs.{needs}
 use Rattle.whole.specs.Poly.{at}
 use Rattle.whole.specs.Number.{FirstPositive, Tells}
+use Rattle.whole.proofs.Flags.{told, untold}
 use Rattle.poly.specs.Terms.{Above, Top}
 use Rattle.poly.proofs.Top.{length-above, above-lowered}
 use Rattle.pair.specs.Pairs.{pairs}
+use Rattle.pair.proofs.Roots.{first-some}
 use Rattle.root.specs.declared.pairs.Quadratic.{Quadratic}
 use Rattle.root.specs.Pairs.{quadratic, LeadKept}
-use Rattle.curve.proofs.Flags.{told, untold}
-use Rattle.curve.proofs.Signs.{first-some}
 use Rattle.curve.proofs.Turned.{lead-of}
 use Rattle.curve.proofs.preimages.lead_positive.Statement.{statement}
 use Rattle.curve.proofs.preimages.lead_positive.Tie as tie

@@ -10,8 +10,8 @@ use Rattle.pair.specs.declared.Pair.{Pair}
 use Rattle.pair.specs.Pairs.{pair, times, negative}
 use Rattle.pair.proofs.Parts.{wider}
 use Rattle.pair.proofs.Laws.{pairs-ring, times-one}
+use Rattle.pair.proofs.Roots.{first-found}
 use Rattle.root.specs.Pairs.{quadratic}
-use Rattle.curve.proofs.Signs.{first-found}
 use Rattle.curve.proofs.Generators.{opposite-opposite}
 use Rattle.curve.proofs.preimages.normalised.Statement.{statement}
 use Rattle.curve.proofs.preimages.normalised.Tie as tie

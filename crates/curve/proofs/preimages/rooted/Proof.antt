@@ -11,7 +11,7 @@ use Rattle.poly.proofs.Lists.{scaled-one}
 use Rattle.poly.proofs.Top.{top-same, top-some, top-scaled, top-quotient}
 use Rattle.pair.specs.declared.Pair.{Pair}
 use Rattle.pair.specs.Pairs.{pair, pairs, times, negative, imaginary, PartsWithin}
-use Rattle.pair.proofs.Parts.{wider}
+use Rattle.pair.proofs.Parts.{wider, negative-within, turned-within}
 use Rattle.pair.proofs.Laws.{pairs-ring, pairs-domain}
 use Rattle.pair.proofs.Divisors.{greatest-within}
 use Rattle.root.specs.Search.{SmallRoot}
@@ -20,7 +20,7 @@ use Rattle.curve.specs.Verdicts.{Still, SquareOf}
 use Rattle.curve.specs.Steps.{PairsDivided, Squarely}
 use Rattle.curve.proofs.Known.{pairs-slight, generators-small}
 use Rattle.curve.proofs.Generators.{root-generates, turned-root-generates, no-roots-not-generated, root-coprime}
-use Rattle.curve.proofs.Turned.{imaginary-some, opposite-within, opposite-some, turned-some, turned-within, turned-all, pre-holds}
+use Rattle.curve.proofs.Turned.{imaginary-some, opposite-some, turned-some, turned-all, pre-holds}
 use Rattle.curve.proofs.preimages.rooted.Statement.{statement}
 use Rattle.curve.proofs.preimages.rooted.Tie as tie
 
@@ -121,7 +121,7 @@ normalised-requires : tie.Need-normalised-requires
 normalised-requires c κs =
     let s = d (c .before .before) .before in
     let root = turned-root (c .before .before) in (
-      subst (PartsWithin 1280000) (sym (factor-is c)) (opposite-within (turned-within (g-small s))),
+      subst (PartsWithin 1280000) (sym (factor-is c)) (negative-within (turned-within (g-small s))),
       subst (λ (k : Pair). k ≢ pairs .none) (sym (factor-is c)) (opposite-some (turned-some (s .pre .2))),
       root .small,
       root .lead,

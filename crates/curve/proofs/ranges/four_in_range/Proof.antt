@@ -1,6 +1,6 @@
 -- `ranges::four_in_range` meets its contract.
 use Rattle.whole.proofs.Linear.{linear}
-use Rattle.curve.proofs.Flags.{told, untold}
+use Rattle.whole.proofs.Flags.{told, untold}
 use Rattle.curve.proofs.ranges.four_in_range.Statement.{statement}
 use Rattle.curve.proofs.ranges.four_in_range.Tie as tie
 

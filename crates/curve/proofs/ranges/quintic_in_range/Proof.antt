@@ -1,6 +1,6 @@
 -- `ranges::quintic_in_range` meets its contract.
 use borrow.Author.Needs.{needs}
-use Rattle.curve.proofs.Flags.{told, untold}
+use Rattle.whole.proofs.Flags.{told, untold}
 use Rattle.curve.proofs.ranges.quintic_in_range.Statement.{statement}
 use Rattle.curve.proofs.ranges.quintic_in_range.Tie as tie
 

@@ -21,8 +21,8 @@ use Rattle.curve.specs.Curves.{pointsOf, powerForm, legPolynomial}
 use Rattle.curve.specs.Steps.{polynomial}
 use Rattle.curve.proofs.LegPolynomial.{re-part, im-part, pointsOf-length}
 use Rattle.curve.proofs.Sizes.{legPolynomial-within}
+use Rattle.curve.proofs.Derivative.{start-within, powerForm-within}
 use Rattle.offset.specs.Steps.{six, ten, PathAsked, IsPath, RowAsked}
-use Rattle.offset.proofs.Derivative.{start-within, powerForm-within}
 use Rattle.offset.proofs.Products.{rowSize, rowSize-most, row-sized}
 use Rattle.offset.proofs.Paths.{path-asked, path-is, coordinate, weight-least, weight-size, weighted-of}
 use Rattle.offset.proofs.terms.rows.Statement.{statement}

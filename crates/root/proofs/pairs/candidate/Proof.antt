@@ -7,11 +7,11 @@ use Rattle.poly.specs.Terms.{twice}
 use Rattle.pair.specs.declared.Pair.{Pair}
 use Rattle.pair.specs.Pairs.{pairs, minus, times, PartsWithin}
 use Rattle.pair.proofs.Euclid.{twice-pair-some}
-use Rattle.pair.proofs.Parts.{wider, times-within}
+use Rattle.pair.proofs.Parts.{wider, times-within, plus-within, minus-within}
 use Rattle.root.specs.declared.pairs.Five.{Five}
 use Rattle.root.specs.Search.{SmallQuotient}
 use Rattle.root.specs.Pairs.{SmallPair}
-use Rattle.root.proofs.Quadratics.{plus-within, minus-within, candidate-is}
+use Rattle.root.proofs.Quadratics.{candidate-is}
 use Rattle.root.proofs.pairs.candidate.Statement.{statement}
 use Rattle.root.proofs.pairs.candidate.Tie as tie
 

@@ -11,11 +11,12 @@ use Rattle.pair.specs.Pairs.{pairs, times}
 use Rattle.pair.specs.Roots.{IsPairRoot, KeptRoot}
 use Rattle.pair.proofs.Divisors.{pair-zero?}
 use Rattle.pair.proofs.Laws.{pairs-ring, pairs-domain}
-use Rattle.pair.proofs.Parts.{wider}
+use Rattle.pair.proofs.Parts.{wider, negative-within}
+use Rattle.pair.proofs.Roots.{pair-root-within}
 use Rattle.root.specs.declared.pairs.Five.{Five}
 use Rattle.root.specs.Pairs.{SmallPair, Kept}
 use Rattle.root.proofs.Candidates.{candidate-decides, candidate-lead}
-use Rattle.root.proofs.Quadratics.{flipped-small, root-small, quadratic-above}
+use Rattle.root.proofs.Quadratics.{quadratic-above}
 use Rattle.root.proofs.pairs.quadratic_root.Statement.{statement}
 use Rattle.root.proofs.pairs.quadratic_root.Tie as tie
 
@@ -52,7 +53,7 @@ module _ (c : tie.After-known-told) where
   some z = o .pre .1 .lead (sym (root .squared) ∙ ap (λ p. times p p) z)
 
 candidate-requires : tie.Need-candidate-requires
-candidate-requires c κs = (o c .pre .0, root-small (o c .pre .0 4) (root c .squared), some c)
+candidate-requires c κs = (o c .pre .0, pair-root-within 3000000 20000 (e c .e4) (s c) (o c .pre .0 4) (root c .squared) (lit≤ tt) (lit≤ tt), some c)
 
 square-requires : tie.Need-square-requires
 square-requires c κs = c .candidate .ensures .small
@@ -77,7 +78,7 @@ returns-3 c x b h =
     let s = p .before in
     subst (Tells _) (c .if1 .left) (c .before .same .ensures)
     (λ k. sym (c .before .before .square .ensures k)
-    ∙ candidate-decides pairs-ring pairs-domain pair-zero? SmallPair flipped-small 2 (o s .pre .1) (root s .squared) (p .candidate .ensures) x b h k)
+    ∙ candidate-decides pairs-ring pairs-domain pair-zero? SmallPair (λ a. negative-within) 2 (o s .pre .1) (root s .squared) (p .candidate .ensures) x b h k)
 
 pub quadratic-root-spec : {M : Type 1} → statement M
 quadratic-root-spec =

@@ -7,11 +7,10 @@ use Rattle.whole.specs.Poly.{Same, square}
 use Rattle.pair.specs.declared.Pair.{Pair}
 use Rattle.pair.specs.Pairs.{pairs, plus, times, PartsWithin}
 use Rattle.pair.proofs.Laws.{pairs-ring}
-use Rattle.pair.proofs.Parts.{wider, times-within}
+use Rattle.pair.proofs.Parts.{wider, times-within, plus-within}
 use Rattle.root.specs.declared.pairs.Quadratic.{Quadratic}
 use Rattle.root.specs.Pairs.{quadratic, SmallPair}
 use Rattle.root.proofs.Squared.{quadratic-square}
-use Rattle.root.proofs.Quadratics.{plus-within}
 use Rattle.root.proofs.pairs.square.Statement.{statement}
 use Rattle.root.proofs.pairs.square.Tie as tie
 

@@ -1,11 +1,11 @@
--- Power forms of lists of Bernstein coefficients. It belongs into the crate `curve`.
+-- Power forms of lists of Bernstein coefficients.
 --   powerForm-multiple      of a multiple it is the multiple
 --   powerForm-once          two lists of one length with the same power form are the same
 use mathlib.Core.Path.{_≡_, refl, sym, ap, ap₂, _∙_}
 use mathlib.Core.List.{List, [], _∷_, map}
 use Prim.Native.Nat.{ℕ, zero, suc, _+_, _-_, _≤_}
 use native.Mathlib.Omega.{arith}
-use lib.IntN.{ℤ, pos, _-ℤ_, _*ℤ_}
+use lib.IntN.{ℤ, pos, _-ℤ_, _*ℤ_, *ℤ-comm}
 use lib.ListN.{length, length-map}
 use Rattle.whole.specs.Poly.{at, Same, choose}
 use Rattle.whole.proofs.Wholes.{atomsℤ, readℤ, ringℤ}
@@ -13,10 +13,10 @@ use Rattle.poly.proofs.Binomials.{choose-positive}
 use Rattle.pair.specs.declared.Pair.{Pair}
 use Rattle.pair.specs.Pairs.{pairs, plus, minus, multiple}
 use Rattle.pair.proofs.Parts.{pair-equal}
+use Rattle.pair.proofs.Laws.{multiple-multiple, multiple-cancel}
+use Rattle.pair.proofs.PairSolver.{the, _⊞_, _⊟_, solve-pairs}
 use Rattle.curve.specs.Curves.{differences, powers, powerForm}
 use Rattle.curve.proofs.LegPolynomial.{differences-length}
-use Rattle.join.proofs.PairSolver.{the, _⊞_, _⊟_, solve-pairs}
-use Rattle.join.proofs.Pairs.{multiple-cancel}
 
 -- ---- multiples
 module _ (c : ℤ) where
@@ -25,12 +25,6 @@ module _ (c : ℤ) where
     where
       part : (x y : ℤ) → c *ℤ y -ℤ c *ℤ x ≡ c *ℤ (y -ℤ x)
       part x y = atomsℤ (c ∷ x ∷ y ∷ []) (λ ρ e. simp (e 0, e 1, e 2, readℤ) (ringℤ ρ _ _ tt))
-
-  multiple-multiple : (n : ℤ) (p : Pair) → multiple n (multiple c p) ≡ multiple c (multiple n p)
-  multiple-multiple n p = pair-equal (part (p .re)) (part (p .im))
-    where
-      part : (x : ℤ) → n *ℤ (c *ℤ x) ≡ c *ℤ (n *ℤ x)
-      part x = atomsℤ (c ∷ n ∷ x ∷ []) (λ ρ e. simp (e 0, e 1, e 2, readℤ) (ringℤ ρ _ _ tt))
 
   differences-multiple : (ds : List Pair) → differences (map (multiple c) ds) ≡ map (multiple c) (differences ds)
   unfolding differences
@@ -43,7 +37,7 @@ module _ (c : ℤ) where
   powers-multiple zero m k ds = refl
   powers-multiple (suc n) m k [] = refl
   powers-multiple (suc n) m k (d ∷ ds) =
-      ap₂ _∷_ (multiple-multiple (pos (choose m k)) d) (ap (powers n m (suc k)) (differences-multiple (d ∷ ds)) ∙ powers-multiple n m (suc k) (differences (d ∷ ds)))
+      ap₂ _∷_ (multiple-multiple (pos (choose m k)) c c (pos (choose m k)) d (*ℤ-comm (pos (choose m k)) c)) (ap (powers n m (suc k)) (differences-multiple (d ∷ ds)) ∙ powers-multiple n m (suc k) (differences (d ∷ ds)))
 
   pub powerForm-multiple : (ds : List Pair) → powerForm (map (multiple c) ds) ≡ map (multiple c) (powerForm ds)
   unfolding powerForm

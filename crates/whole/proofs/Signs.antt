@@ -1,19 +1,25 @@
 -- Signs of ℤ, said by products of two numbers, so that no proof splits by the sign of one.
+--   negated-positive                      what is not positive, and not 0, has a positive negative
 --   mixed-times                           a product of a positive number and a negative one
 --   positive-cancel                       a factor that is not negative is taken off a positive product
 --   Like, Unlike                          two numbers have the same sign; opposite signs; so neither is 0
 --   like-flip, unlike-flip, like-like, unlike-unlike, like-unlike      what follows of a and c, from a and b, and b and c
 --   carried                               two numbers with opposite signs give their signs to two others
 --   unlike-some                           where signs are opposite no number is 0
--- It belongs beside Order, into `whole`.
-use mathlib.Core.Path.{_≡_, ap, subst}
+use mathlib.Core.Path.{_≡_, refl, ap, subst}
 use mathlib.Core.List.{[], _∷_}
 use mathlib.Core.Logic.{_≢_, _⊎_, inl, inr}
-use lib.IntN.{ℤ, pos, negℤ, _*ℤ_, *ℤ-comm, *ℤ-zero}
+use Prim.Native.Nat.{zero, suc}
+use lib.IntN.{ℤ, pos, negsuc, negℤ, _*ℤ_, *ℤ-comm, *ℤ-zero}
 use lib.Signed.{_≤ℤ_, _<ℤ_}
 use Rattle.whole.proofs.Wholes.{atomsℤ, readℤ, ringℤ}
 use Rattle.whole.proofs.Linear.{linear, negative-parts}
 use Rattle.whole.proofs.Order.{nonneg-times, nonneg-square, positive-times, compare}
+
+pub negated-positive : (x : ℤ) → x ≤ℤ pos 0 → x ≢ pos 0 → pos 0 <ℤ negℤ x
+negated-positive (pos zero) h n = absurd (n refl)
+negated-positive (pos (suc m)) h n = omega linear
+negated-positive (negsuc m) h n = omega linear
 
 times-negative : (k z : ℤ) → k *ℤ negℤ z ≡ negℤ (k *ℤ z)
 times-negative k z = atomsℤ (k ∷ z ∷ []) (λ ρ e. simp (e 0, e 1, readℤ) (ringℤ ρ _ _ tt))

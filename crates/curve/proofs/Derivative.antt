@@ -1,4 +1,4 @@
--- The points of a curve as powers of t: r' = n D, for any number of points. (This belongs into the crate `curve`.)
+-- The points of a curve as powers of t: r' = n D, for any number of points.
 --   powerForm-start     r at 0 is the first point
 --   derivative          the coefficients of r' are n times those of D
 --   start-within, powerForm-within    sizes: for a curve in range no coefficient of r is larger than 1,600,000, by parts
@@ -7,17 +7,18 @@ use mathlib.Core.List.{List, [], _∷_}
 use Prim.Native.Nat.{ℕ, zero, suc, _+_, _*_, _-_, _≤_}
 use native.Mathlib.Nat.{mul-le-mul, zero-add}
 use native.Mathlib.Omega.{arith}
-use lib.IntN.{ℤ, pos, natAbs, _*ℤ_, *ℤ-comm, *ℤ-zero}
+use lib.IntN.{ℤ, pos, natAbs, _*ℤ_, *ℤ-comm}
 use lib.ListN.{length}
 use Rattle.whole.specs.Poly.{at, choose}
 use Rattle.whole.specs.Number.{Within}
-use Rattle.whole.proofs.Integers.{*ℤ-1, *ℤ-assoc, abs-times}
+use Rattle.whole.proofs.Integers.{*ℤ-1, abs-times}
 use Rattle.pair.specs.declared.Pair.{Pair}
 use Rattle.pair.specs.Pairs.{pairs, multiple, PartsWithin}
-use Rattle.pair.proofs.Parts.{pair-equal, zero-within, wider}
+use Rattle.pair.proofs.Parts.{pair-equal, zero-within, wider, re-equal, im-equal}
+use Rattle.pair.proofs.Laws.{multiple-none, multiple-multiple}
 use Rattle.curve.specs.Curves.{InRange, differences, powers, powerForm, legPolynomial}
 use Rattle.curve.proofs.LegPolynomial.{differences-length}
 use Rattle.curve.proofs.Sizes.{legSize, legPolynomial-sizes}
 
 -- ---- (k + 1) C(m + 1, k + 1) = (m + 1) C(m, k)
 absorbed : (m k : ℕ) → suc k * choose (suc m) (suc k) ≡ suc m * choose m k
@@ -27,22 +28,12 @@ absorbed zero (suc k) = omega arith
 absorbed (suc m) zero = omega (arith, absorbed m zero)
 absorbed (suc m) (suc k) = omega (arith, absorbed m k, absorbed m (suc k))
 
--- ---- multiples of a pair
-multiple-multiple : (a b c d : ℕ) (z : Pair) → a * b ≡ c * d → multiple (pos a) (multiple (pos b) z) ≡ multiple (pos c) (multiple (pos d) z)
-multiple-multiple a b c d z e = pair-equal (part (z .re)) (part (z .im))
-  where
-    part : (x : ℤ) → pos a *ℤ (pos b *ℤ x) ≡ pos c *ℤ (pos d *ℤ x)
-    part x = sym (*ℤ-assoc (pos a) (pos b) x) ∙ ap (λ n. pos n *ℤ x) e ∙ *ℤ-assoc (pos c) (pos d) x
-
-multiple-none : (a b : ℤ) → multiple a (pairs .none) ≡ multiple b (pairs .none)
-multiple-none a b = pair-equal (*ℤ-zero a ∙ sym (*ℤ-zero b)) (*ℤ-zero a ∙ sym (*ℤ-zero b))
-
 -- ---- the derivative
 powers-derived : (n m k : ℕ) (ds : List Pair) (i : ℕ) → multiple (pos (suc (k + i))) (at pairs (powers n (suc m) (suc k) ds) i) ≡ multiple (pos (suc m)) (at pairs (powers n m k ds) i)
 unfolding powers
-powers-derived zero m k ds i = multiple-none (pos (suc (k + i))) (pos (suc m))
-powers-derived (suc n) m k [] i = multiple-none (pos (suc (k + i))) (pos (suc m))
-powers-derived (suc n) m k (d ∷ ds) zero = multiple-multiple (suc (k + 0)) (choose (suc m) (suc k)) (suc m) (choose m k) d (omega (arith, absorbed m k))
+powers-derived zero m k ds i = multiple-none (pos (suc (k + i))) ∙ sym (multiple-none (pos (suc m)))
+powers-derived (suc n) m k [] i = multiple-none (pos (suc (k + i))) ∙ sym (multiple-none (pos (suc m)))
+powers-derived (suc n) m k (d ∷ ds) zero = multiple-multiple (pos (suc (k + 0))) (pos (choose (suc m) (suc k))) (pos (suc m)) (pos (choose m k)) d (ap pos (omega (arith, absorbed m k)))
 powers-derived (suc n) m k (d ∷ ds) (suc i) =
     ap (λ j. multiple (pos j) (at pairs (powers n (suc m) (suc (suc k)) (differences (d ∷ ds))) i)) (omega arith) ∙ powers-derived n m (suc k) (differences (d ∷ ds)) i
 
@@ -61,8 +52,8 @@ legPolynomial-is p ps = ap (λ n. powers n (n - 1) 0 (differences (p ∷ ps))) (
 
 pub derivative : (ps : List Pair) (k : ℕ) → multiple (pos (suc k)) (at pairs (powerForm ps) (suc k)) ≡ multiple (pos (length ps - 1)) (at pairs (legPolynomial ps) k)
 unfolding powerForm legPolynomial powers differences
-derivative [] k = multiple-none (pos (suc k)) (pos 0)
-derivative (p ∷ []) k = multiple-none (pos (suc k)) (pos 0)
+derivative [] k = multiple-none (pos (suc k)) ∙ sym (multiple-none (pos 0))
+derivative (p ∷ []) k = multiple-none (pos (suc k)) ∙ sym (multiple-none (pos 0))
 derivative (p ∷ q ∷ ps) k =
     let m : length (p ∷ q ∷ ps) - 1 ≡ suc (length ps) = omega arith in
     let n : length (q ∷ ps) - 1 ≡ length ps = omega arith in
@@ -101,6 +92,6 @@ module _ (ps : List Pair) (r : InRange ps) (l : length ps ≤ 6) where
       let s = legPolynomial-sizes ps r l k in
       let e = derivative ps k in
       record {
-        re = record { size = quotient-most k (natAbs (x .re)) (quotient-within k (legSize k) (x .re) (d .re) (ap (λ z. z .re) e) (s .re)) };
-        im = record { size = quotient-most k (natAbs (x .im)) (quotient-within k (legSize k) (x .im) (d .im) (ap (λ z. z .im) e) (s .im)) };
+        re = record { size = quotient-most k (natAbs (x .re)) (quotient-within k (legSize k) (x .re) (d .re) (re-equal e) (s .re)) };
+        im = record { size = quotient-most k (natAbs (x .im)) (quotient-within k (legSize k) (x .im) (d .im) (im-equal e) (s .im)) };
       }

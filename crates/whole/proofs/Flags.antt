@@ -1,0 +1,19 @@
+-- What a flag tells.
+--   told, untold     P holds where its flag is true, and not where it is false: for a branch that has tested it
+--   told-once        P has one flag
+use mathlib.Core.Path.{_≡_, refl, subst}
+use mathlib.Core.Bool.{Bool, true, false, not}
+use borrow.Author.Tests.{not-true, not-false}
+use Rattle.whole.specs.Number.{Tells}
+
+pub told : {P : Type 0} (r : Bool) → Tells P r → not r ≡ false → P
+told {P} r h e = subst (Tells P) (not-false r e) h
+
+pub untold : {P : Type 0} (r : Bool) → Tells P r → not r ≡ true → P → ⊥
+untold {P} r h e = subst (Tells P) (not-true r e) h
+
+pub told-once : (P : Type 0) (a b : Bool) → Tells P a → Tells P b → a ≡ b
+told-once P true true h k = refl
+told-once P true false h k = absurd (k h)
+told-once P false true h k = absurd (h k)
+told-once P false false h k = refl
