@@ -21,6 +21,7 @@ use Rattle.pair.specs.declared.Pair.{Pair}
 use Rattle.pair.specs.Pairs.{pairs, times, norm}
 use Rattle.pair.proofs.Laws.{pairs-ring, norm-times, norm-some}
 use Rattle.pair.proofs.Units.{norm-unit}
+use Rattle.pair.proofs.Roots.{first-some}
 use Rattle.root.specs.Search.{Lead}
 use Rattle.root.specs.Roots.{quartic, LeadPositive}
 use Rattle.root.specs.Pairs.{quadratic, LeadKept}
@@ -31,7 +32,7 @@ use Rattle.curve.specs.Verdicts.{Squared, Generated, NotSquared, NotGenerated, 
 use Rattle.curve.proofs.Coprime.{coprime-primitive, primitive-coprime}
 use Rattle.curve.proofs.Lengths.{generated-squared, squaredLength-lead-positive}
 use Rattle.curve.proofs.Norms.{generated-content}
-use Rattle.curve.proofs.Signs.{first-some, first-top}
+use Rattle.curve.proofs.Signs.{first-top}
 use Rattle.cases.proofs.Lower.{Between, between-no-square, same-padded, above-zeros, values-square}
 
 pub not-squared : (D : List Pair) (x y : ℤ) → Between (value wholes x (squaredLength D) *ℤ value wholes y (squaredLength D)) → NotSquared D

@@ -12,6 +12,7 @@ use native.Mathlib.Omega.{arith}
 use lib.IntN.{ℤ, pos, natAbs, _*ℤ_}
 use lib.ListN.{length}
 use Rattle.refusal.specs.Table.{Cause, First}
+use Rattle.refusal.proofs.Laws.{first-after}
 use Rattle.whole.specs.Poly.{scaled}
 use Rattle.whole.specs.Area.{Fills}
 use Rattle.whole.specs.Number.{wholes, Within}
@@ -39,7 +40,6 @@ use Rattle.measure.specs.Turns.{turningOf, Straight, CountIs}
 use Rattle.measure.specs.Promises.{Measured, Inflected}
 use Rattle.offset.specs.declared.OffsetAnswer.the-variants.{Written}
 use Rattle.offset.specs.Offsets.{offsetCurve, offsetNumbers, needs, beyond, no-root, no-room, OffsetBy}
-use Rattle.offset.proofs.Causes.{first-after}
 use Rattle.join.specs.Listing as join
 use Rattle.cases.specs.Rows.{Claim, SaysAll, CurveHolds, Long, JoinsHold, filled}
 use Rattle.cases.proofs.Lower.{Between, filled-length, filled-fills, not-squared-moves, square-moves}
