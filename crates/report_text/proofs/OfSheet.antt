@@ -22,7 +22,6 @@ use Rattle.sheet.specs.Promises.{Reads}
 use Rattle.sheet.proofs.Laws.{chosen-in-range, read-order}
 use Rattle.refusal.specs.declared.Refusal.the-variants as refusal
 use Rattle.whole.specs.Poly.{at}
-use Rattle.curve.specs.declared.Verdict.the-variants as verdict
 use Rattle.sheet.specs.Kinds.{Kind}
 use Rattle.sheet.specs.Steps.{stepOf}
 use Rattle.sheet.specs.declared.steps.Step.{Step}
@@ -30,7 +29,6 @@ use Rattle.sheet.specs.declared.steps.Step.the-variants as step
 use Rattle.sheet.proofs.Choose.{by-order}
 use Rattle.sheet.proofs.Shown.{Known, cubic, quintic, fault-near, step-whole}
 use Rattle.sheet.proofs.Outcomes.{flat, AllWhole, sound-of, outcome-long, outcome-short, reads}
-use Rattle.report_text.specs.declared.ReportAnswer.the-variants as report
 
 pub no-answer : {A X : Type 0} {a : A} {n p : ℕ} → given a ≡ refused n p → X
 no-answer e = let z : _≡_ {A = ℕ} 0 1 = cc in absurd (omega arith)

@@ -12,7 +12,6 @@ use lib.IntN.{ℤ, pos, negsuc, natAbs}
 use lib.ListN.{length, length-append}
 use lib.Signed.{_≤ℤ_}
 use Rattle.refusal.specs.declared.Refusal.{Refusal}
-use Rattle.refusal.specs.declared.Refusal.the-variants as refusal
 use Rattle.whole.specs.Poly.{at}
 use Rattle.whole.specs.Number.{wholes, Within}
 use Rattle.whole.proofs.Wholes.{readℤ, read-pos}
@@ -33,7 +32,6 @@ use Rattle.curve.proofs.LegPolynomial.{pointsOf-length}
 use Rattle.curve.proofs.Sizes.{root-size}
 use Rattle.measure.specs.Lengths.{lengthA, lengthB}
 use Rattle.sheet.specs.Sheets.{refused, given, with-given, outcome}
-use Rattle.sheet.specs.declared.steps.Step.the-variants as step
 use Rattle.sheet.proofs.Outcomes.{Records, reads}
 use Rattle.report_text.specs.declared.ReportAnswer.the-variants as report
 use Rattle.report_text.specs.Texts.{signed, labelled, bytes, decimal, firstLine, kindText, verdictText}

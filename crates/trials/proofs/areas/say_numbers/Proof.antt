@@ -1,6 +1,5 @@
 -- `areas::say_numbers` is safe.
 use Prim.Native.Nat.{_-_, _≤_}
-use native.Mathlib.Omega.{arith}
 use borrow.Author.Needs.{needs}
 use lib.ListN.{length}
 use Rattle.trials.proofs.areas.say_numbers.Statement.{statement}

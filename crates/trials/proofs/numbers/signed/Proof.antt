@@ -4,7 +4,6 @@ use native.Mathlib.Omega.{arith}
 use borrow.Author.Needs.{needs}
 use lib.IntN.{pos, _-ℤ_}
 use mir.Syntax.{w64}
-use mir.Val.{SFits}
 use mir.ValLaws.{toZ-pos}
 use Rattle.whole.proofs.Linear.{linear, minus-parts, one-part}
 use Rattle.trials.proofs.numbers.signed.Statement.{statement}
