@@ -21,9 +21,9 @@ use Rattle.curve.specs.Curves.{pointsOf, InRange, differences, powerForm, legPo
 use Rattle.curve.specs.Verdicts.{Generated, Still, Holds, numberOfVerdict}
 use Rattle.curve.specs.Promise.{Recognised, out-of-range}
 use Rattle.curve.proofs.Lengths.{generated-squared}
-use Rattle.curve.proofs.Points.{still-legs}
+use Rattle.curve.proofs.PowerForms.{powerForm-zero}
 use Rattle.build.specs.declared.BuildAnswer.the-variants as answer
-use Rattle.build.specs.Builds.{Source, given, Legs, points, AllZero, causes, Built}
+use Rattle.build.specs.Builds.{Source, given, Legs, points, causes, Built}
 use Rattle.build.proofs.Legs.{outside, legs-squared}
 
 -- ---- the legs of the points are the legs
@@ -37,11 +37,6 @@ points-legs p (d ∷ e ∷ ds) = λ i. plus-minus p d i ∷ points-legs (plus p 
 drawn : (p0 : Pair) (s : Source) (ds : List Pair) → Legs s ds → Same pairs (legPolynomial (points p0 ds)) (square pairs (powerForm (given s)))
 unfolding legPolynomial
 drawn p0 s ds l = rw (points-legs p0 ds) (legs-squared s ds l)
-
--- a polynomial is 0 only where its Bernstein coefficients are
-powers-zero : (ws : List Pair) → Same pairs (powerForm ws) [] → AllZero ws
-unfolding legPolynomial
-powers-zero ws z = subst (λ ds. Same pairs ds []) (points-legs (pairs .none) ws) (still-legs (points (pairs .none) ws) .0 (rw (points-legs (pairs .none) ws) z))
 
 module _ (p0 : Pair) (s : Source) (c : Curve) (h : Built p0 s (answer.Built c)) where
   abbrev W : List Pair
@@ -65,7 +60,7 @@ module _ (p0 : Pair) (s : Source) (c : Curve) (h : Built p0 s (answer.Built c)) 
   moves z = ⊎-elim zero zero (product-zero pairs-ring pairs-domain W W (λ k. sym (D-squared k) ∙ z k))
     where
       zero : Same pairs W [] → ⊥
-      zero y = none-holds .1 .0 (powers-zero (given s) y)
+      zero y = none-holds .1 .0 (powerForm-zero (given s) .0 y)
 
   abbrev IsPre : Verdict → Type 0
   IsPre v = (p : Preimage) × (v ≡ verdict.Pre p) × Same pairs (scaled pairs (p .kappa) (square pairs (quadratic (p .w)))) (square pairs W)

@@ -25,6 +25,7 @@ use Rattle.root.specs.declared.Quartic.{Quartic}
 use Rattle.root.specs.Pairs.{quadratic, LeadKept}
 use Rattle.root.specs.declared.pairs.Quadratic.{Quadratic}
 use Rattle.root.specs.Roots.{quartic, LeadPositive}
+use Rattle.root.proofs.Leads.{lead-same}
 use Rattle.curve.specs.declared.Square.{Square}
 use Rattle.curve.specs.declared.Preimage.{Preimage}
 use Rattle.curve.specs.Curves.{squaredLength}
@@ -49,9 +50,6 @@ quadratic-same : (w : List Pair) → Above pairs (at pairs w) 2 → Same pairs w
 quadratic-same w = listed-same pairs 2 (at pairs w)
 
 -- ---- c and q
-lead-same : (p q : List ℤ) → Same wholes p q → LeadPositive p → LeadPositive q
-lead-same p q e h = record { power = h .power; positive = rw (e (h .power)) at (h .positive); above = λ k l. sym (e k) ∙ h .above k l }
-
 squared-opposite : (D : List Pair) (c : ℤ) (q : List ℤ) → Squared D c q → Squared D c (scaled wholes (negsuc 0) q)
 squared-opposite D c q h k =
     h k
@@ -68,7 +66,7 @@ square-made D c q a h g e l =
         positive = h;
         squared = root-same wholes-ring (squaredLength D) q (quartic (as-quartic q)) c same e;
         content = g;
-        lead = lead-same q (quartic (as-quartic q)) same l;
+        lead = lead-same same l;
       },
     )
 

@@ -33,6 +33,7 @@ use Rattle.pair.proofs.Units.{no-imaginary-square}
 use Rattle.root.specs.Pairs.{quadratic, LeadKept}
 use Rattle.root.specs.Roots.{quartic}
 use Rattle.root.proofs.Once.{quartic-same, quadratic-same}
+use Rattle.root.proofs.Leads.{positive-lead-once, kept-lead-once}
 use Rattle.curve.specs.declared.Square.{Square}
 use Rattle.curve.specs.declared.Preimage.{Preimage}
 use Rattle.curve.specs.declared.Verdict.{Verdict}
@@ -43,7 +44,7 @@ use Rattle.curve.specs.Promise.{Recognised, out-of-range}
 use Rattle.curve.proofs.Coprime.{by-unit, coprime-primitive}
 use Rattle.curve.proofs.Lengths.{generated-squared, squaredLength-lead-positive}
 use Rattle.curve.proofs.Norms.{generated-content}
-use Rattle.curve.proofs.Signs.{lead-once, lead-first-once, first-top}
+use Rattle.curve.proofs.Signs.{first-top}
 
 -- ---- c and q
 positive-some : {c : ℤ} → pos 0 <ℤ c → c ≢ pos 0
@@ -58,7 +59,7 @@ square-once D s t h k = λ i. record { c = c i; q = q i }
     q : s .q ≡ t .q
     q =
         quartic-same (s .q) (t .q)
-        (lead-once (quartic (s .q)) (quartic (t .q)) (h .lead) (k .lead)
+        (positive-lead-once (quartic (s .q)) (quartic (t .q)) (h .lead) (k .lead)
         (scaled-squares-agree wholes-ring wholes-domain (s .c) (quartic (s .q)) (quartic (t .q)) (positive-some (h .positive))
         (λ j. sym (h .squared j) ∙ k .squared j ∙ ap (λ x. at wholes (scaled wholes x (square wholes (quartic (t .q)))) j) (sym c))))
 
@@ -69,7 +70,7 @@ generators-agree D κ κ′ w w′ e e′ h h′ f f′ l l′ =
     by-unit (λ u. Same pairs (square pairs w) (scaled pairs u (square pairs w′)) → times κ u ≡ κ′ → (κ ≡ κ′) × Same pairs w w′)
     (λ p q. (
       sym (pairs-ring .times-one κ) ∙ q,
-      lead-first-once w w′ l l′ (squares-agree pairs-ring pairs-domain w w′ (λ k. p k ∙ scaled-one pairs-ring (square pairs w′) k)),
+      kept-lead-once w w′ l l′ (squares-agree pairs-ring pairs-domain w w′ (λ k. p k ∙ scaled-one pairs-ring (square pairs w′) k)),
     ))
     (λ p q. absurd (not-both κ′ κ f′ f (sym q ∙ pairs-ring .times-comm κ (pair (negsuc 0) (pos 0)) ∙ minus-one pairs-ring κ)))
     (λ p q. absurd (no-imaginary-square s t t-some .0 (leads imaginary (λ z. omega (linear, ap (λ a. a .im) z)) p)))
@@ -110,7 +111,7 @@ preimage-norms D p h = (c, q)
 
     q : Same wholes (quartic (p .square .q)) (squaredLength w)
     q =
-        lead-once (quartic (p .square .q)) (squaredLength w) (s .lead) (squaredLength-lead-positive (first-top (h .lead)))
+        positive-lead-once (quartic (p .square .q)) (squaredLength w) (s .lead) (squaredLength-lead-positive (first-top (h .lead)))
         (scaled-squares-agree wholes-ring wholes-domain (p .square .c) (quartic (p .square .q)) (squaredLength w) (positive-some (s .positive))
         (λ j.
         sym (s .squared j)

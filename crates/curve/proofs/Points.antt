@@ -5,21 +5,19 @@
 use mathlib.Core.Path.{_≡_, refl, sym, ap, _∙_}
 use mathlib.Core.List.{List, [], _∷_}
 use mathlib.Core.Logic.{_↔_}
-use Prim.Native.Nat.{ℕ, zero, suc, _+_, _-_, _≤_, _<_}
+use Prim.Native.Nat.{ℕ, zero, suc, _<_}
 use native.Mathlib.Omega.{arith}
-use lib.IntN.{pos}
 use lib.ListN.{length}
-use Rattle.whole.specs.Poly.{at, Same, choose}
+use Rattle.whole.specs.Poly.{at, Same}
 use Rattle.whole.proofs.Ring.{zero-difference}
-use Rattle.poly.proofs.Binomials.{choose-positive}
 use Rattle.pair.specs.declared.Pair.{Pair}
-use Rattle.pair.specs.Pairs.{pairs, minus, multiple}
-use Rattle.pair.proofs.Laws.{pairs-ring, multiple-none, multiple-cancel}
+use Rattle.pair.specs.Pairs.{pairs, minus}
+use Rattle.pair.proofs.Laws.{pairs-ring}
 use Rattle.curve.specs.declared.Curve.{Curve}
 use Rattle.curve.specs.declared.Curve.the-variants.{Cubic, Quintic}
-use Rattle.curve.specs.Curves.{pointsOf, differences, powers, powerForm, legPolynomial}
+use Rattle.curve.specs.Curves.{pointsOf, differences, legPolynomial}
 use Rattle.curve.specs.Verdicts.{Still}
-use Rattle.curve.proofs.LegPolynomial.{differences-length}
+use Rattle.curve.proofs.PowerForms.{powerForm-zero}
 
 pub curve-once : (c d : Curve) → pointsOf c ≡ pointsOf d → c ≡ d
 curve-once (Cubic c) (Cubic d) e = λ i. Cubic (record { p0 = at pairs (e i) 0; p1 = at pairs (e i) 1; p2 = at pairs (e i) 2; p3 = at pairs (e i) 3 })
@@ -35,41 +33,9 @@ minus-zero p q e = zero-difference pairs-ring q p e
 minus-self : (p q : Pair) → q ≡ p → minus q p ≡ pairs .none
 minus-self p q e = ap (λ t. minus t p) e ∙ pairs-ring .plus-negative p
 
--- where the first difference of each order is 0, every one is
-differences-none : (d : Pair) (ds : List Pair) → d ≡ pairs .none → Same pairs (differences (d ∷ ds)) [] → Same pairs (d ∷ ds) []
-unfolding differences
-differences-none d ds z e zero = z
-differences-none d [] z e (suc k) = refl
-differences-none d (q ∷ ds) z e (suc k) = differences-none q ds (minus-zero d q (e zero) ∙ z) (λ j. e (suc j)) k
-
-none-differences : (ds : List Pair) → Same pairs ds [] → Same pairs (differences ds) []
-unfolding differences
-none-differences [] e k = refl
-none-differences (d ∷ []) e k = refl
-none-differences (d ∷ q ∷ ds) e zero = minus-self d q (e 1 ∙ sym (e 0))
-none-differences (d ∷ q ∷ ds) e (suc k) = none-differences (q ∷ ds) (λ j. e (suc j)) k
-
-powers-none : (n m k : ℕ) (ds : List Pair) → length ds ≡ n → k + n ≤ suc m → Same pairs (powers n m k ds) [] → Same pairs ds []
-unfolding powers
-powers-none zero m k [] l h e = λ j. refl
-powers-none zero m k (d ∷ ds) l h e = absurd (omega arith)
-powers-none (suc n) m k [] l h e = λ j. refl
-powers-none (suc n) m k (d ∷ ds) l h e =
-    differences-none d ds (multiple-cancel (choose m k) (choose-positive m k (omega arith)) (e zero ∙ sym (multiple-none (pos (choose m k)))))
-    (powers-none n m (suc k) (differences (d ∷ ds)) (omega (arith, differences-length (d ∷ ds))) (omega arith) (λ j. e (suc j)))
-
-none-powers : (n m k : ℕ) (ds : List Pair) → Same pairs ds [] → Same pairs (powers n m k ds) []
-unfolding powers
-none-powers zero m k ds e j = refl
-none-powers (suc n) m k [] e j = refl
-none-powers (suc n) m k (d ∷ ds) e zero = ap (multiple (pos (choose m k))) (e zero) ∙ multiple-none (pos (choose m k))
-none-powers (suc n) m k (d ∷ ds) e (suc j) = none-powers n m (suc k) (differences (d ∷ ds)) (none-differences (d ∷ ds) e) j
-
 pub still-legs : (ps : List Pair) → Still (legPolynomial ps) ↔ Same pairs (differences ps) []
-unfolding legPolynomial powerForm
-still-legs ps =
-    let ds = differences ps in
-    (powers-none (length ds) (length ds - 1) 0 ds refl (omega arith), none-powers (length ds) (length ds - 1) 0 ds)
+unfolding legPolynomial
+still-legs ps = powerForm-zero (differences ps)
 
 -- ---- the points
 differences-equal : (p : Pair) (ps : List Pair) → Same pairs (differences (p ∷ ps)) [] → (k : ℕ) → k < length (p ∷ ps) → at pairs (p ∷ ps) k ≡ p

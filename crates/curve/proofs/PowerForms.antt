@@ -1,12 +1,14 @@
 -- Power forms of lists of Bernstein coefficients.
 --   powerForm-multiple      of a multiple it is the multiple
 --   powerForm-once          two lists of one length with the same power form are the same
+--   powerForm-zero          only zeros have the power form 0
 use mathlib.Core.Path.{_≡_, refl, sym, ap, ap₂, _∙_}
 use mathlib.Core.List.{List, [], _∷_, map}
+use mathlib.Core.Logic.{_↔_}
 use Prim.Native.Nat.{ℕ, zero, suc, _+_, _-_, _≤_}
 use native.Mathlib.Omega.{arith}
-use lib.IntN.{ℤ, pos, _-ℤ_, _*ℤ_, *ℤ-comm}
-use lib.ListN.{length, length-map}
+use lib.IntN.{ℤ, pos, _-ℤ_, _*ℤ_, *ℤ-comm, zero-*ℤ}
+use lib.ListN.{length, length-map, List·getD-map}
 use Rattle.whole.specs.Poly.{at, Same, choose}
 use Rattle.whole.proofs.Wholes.{atomsℤ, readℤ, ringℤ}
 use Rattle.poly.proofs.Binomials.{choose-positive}
@@ -74,3 +76,24 @@ pub powerForm-once : (ds es : List Pair) → length ds ≡ length es → Same pa
 unfolding powerForm
 powerForm-once ds es l h =
     powers-once (length ds) (length ds - 1) 0 ds es refl (sym l) (omega arith) (λ k. h k ∙ ap (λ (n : ℕ). at pairs (powers n (n - 1) 0 es) k) (sym l))
+
+-- ---- only 0 has the power form 0
+-- 0 times each pair of a list
+zero-multiple : (a : Pair) → multiple (pos 0) a ≡ pairs .none
+zero-multiple a = pair-equal (zero-*ℤ (a .re)) (zero-*ℤ (a .im))
+
+at-zeros : (ds : List Pair) (k : ℕ) → at pairs (map (multiple (pos 0)) ds) k ≡ pairs .none
+at-zeros ds k = List·getD-map (multiple (pos 0)) ds k (pairs .none) ∙ zero-multiple (at pairs ds k)
+
+powerForm-zeros : (ds : List Pair) (k : ℕ) → at pairs (powerForm (map (multiple (pos 0)) ds)) k ≡ pairs .none
+powerForm-zeros ds k = ap (λ (p : List Pair). at pairs p k) (powerForm-multiple (pos 0) ds) ∙ at-zeros (powerForm ds) k
+
+zeros-are : (ds : List Pair) → Same pairs ds [] → ds ≡ map (multiple (pos 0)) ds
+zeros-are [] e = refl
+zeros-are (d ∷ ds) e = ap₂ _∷_ (e zero ∙ sym (zero-multiple d)) (zeros-are ds (λ k. e (suc k)))
+
+pub powerForm-zero : (ds : List Pair) → Same pairs (powerForm ds) [] ↔ Same pairs ds []
+powerForm-zero ds = (
+  λ e k. powerForm-once ds (map (multiple (pos 0)) ds) (sym (length-map ds (multiple (pos 0)))) (λ j. e j ∙ sym (powerForm-zeros ds j)) k ∙ at-zeros ds k,
+  λ e k. ap (λ (p : List Pair). at pairs (powerForm p) k) (zeros-are ds e) ∙ powerForm-zeros ds k,
+)

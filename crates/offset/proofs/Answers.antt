@@ -12,7 +12,7 @@ use lib.ListN.{length}
 use Rattle.refusal.specs.declared.Refusal.{Refusal}
 use Rattle.refusal.specs.declared.Refusal.the-variants as R
 use Rattle.refusal.specs.Table.{Cause, First, numberOf}
-use Rattle.refusal.proofs.Laws.{number-positive, first-kept, first-after}
+use Rattle.refusal.proofs.Laws.{first-kept, first-after, number-some}
 use Rattle.whole.specs.Area.{Cleared, Fills}
 use Rattle.whole.specs.Number.{Within}
 use Rattle.whole.proofs.Areas.{fills-none}
@@ -34,9 +34,6 @@ use Rattle.offset.specs.declared.OffsetAnswer.{OffsetAnswer}
 use Rattle.offset.specs.declared.OffsetAnswer.the-variants.{Refused}
 use Rattle.offset.specs.Offsets.{offsetCurve, offsetNumbers, beyond, no-root, no-room, numberOfOffset, OffsetBy}
 use Rattle.offset.specs.Steps.{RootAsked, IsRooted, Denominated, PutIn}
-
-some : (r : Refusal) → numberOf r ≡ 0 → ⊥
-some r e = omega (arith, number-positive r)
 
 module _ (curve : Curve) where
   abbrev ps : List Pair
@@ -65,8 +62,8 @@ module _ (curve : Curve) where
 
       pub denominated-refused : (r : Refusal) → Preimaged ps (P.Refused r) → Denominated curve h (W.Refused r)
       denominated-refused r i = record {
-        refusal = first-kept causes (no-root ps ∷ []) (numberOf r) (with-h (numberOf r) (i .refusal)) (some r);
-        gives = λ e. absurd (some r e);
+        refusal = first-kept causes (no-root ps ∷ []) (numberOf r) (with-h (numberOf r) (i .refusal)) (number-some r);
+        gives = λ e. absurd (number-some r e);
       }
 
       pub denominated-found : (p : Preimage) → Preimaged ps (P.Found p) → (r : Denominator) → IsRooted (p .square) r → Denominated curve h r
@@ -81,7 +78,7 @@ module _ (curve : Curve) where
       }
       denominated-found p i (W.Refused r) m = record {
         refusal = first-after causes (no-root ps ∷ []) (numberOf r) (with-h 0 (i .refusal)) (inl (none, ap numberOf (m .0)));
-        gives = λ e. absurd (some r e);
+        gives = λ e. absurd (number-some r e);
       }
         where
           none : no-root ps .holds
@@ -90,10 +87,10 @@ module _ (curve : Curve) where
     -- ---- the area
     pub offset-refused : (r : Refusal) (before after : List ℤ) → Denominated curve h (W.Refused r) → Cleared before after → length after ≡ length before → OffsetBy curve h before after (Refused r)
     offset-refused r before after i z l = record {
-      refusal = first-kept (beyond curve h ∷ still ps ∷ not-ph ps ∷ no-preimage ps ∷ no-root ps ∷ []) (no-room curve (length before) ∷ []) (numberOf r) (i .refusal) (some r);
+      refusal = first-kept (beyond curve h ∷ still ps ∷ not-ph ps ∷ no-preimage ps ∷ no-root ps ∷ []) (no-room curve (length before) ∷ []) (numberOf r) (i .refusal) (number-some r);
       same-room = l;
       cleared = λ n. fills-none before z;
-      written = λ e. absurd (some r e);
+      written = λ e. absurd (number-some r e);
     }
 
     pub offset-put : (w : Quartic) (before after : List ℤ) (r : OffsetAnswer) → Denominated curve h (W.Found w) → PutIn curve (offsetCurve ps (quartic w) h) before after r → OffsetBy curve h before after r

@@ -18,7 +18,7 @@ use Prim.Native.Nat.{ℕ, zero, suc, _+_, _*_, _≤_, _<_}
 use native.Mathlib.Nat.{le-of-eq, mul-le-mul}
 use native.Mathlib.Decide.{decLe}
 use native.Mathlib.Omega.{arith}
-use lib.IntN.{ℤ, pos, negsuc, negℤ, natAbs, _+ℤ_, _-ℤ_, _*ℤ_, +ℤ-assoc, +ℤ-comm, +ℤ-idl, +ℤ-idr, +ℤ-invl, +ℤ-invr, *ℤ-zero, zero-*ℤ, negℤ-negℤ}
+use lib.IntN.{ℤ, pos, negsuc, negℤ, natAbs, _+ℤ_, _-ℤ_, _*ℤ_, +ℤ-assoc, +ℤ-comm, +ℤ-idl, +ℤ-idr, +ℤ-invl, +ℤ-invr, *ℤ-comm, *ℤ-zero, zero-*ℤ, negℤ-negℤ}
 use lib.Signed.{_≤ℤ_, _<ℤ_}
 use Rattle.whole.proofs.Integers.{*ℤ-1, *ℤ-assoc, abs-zero, *ℤ-domain}
 use Rattle.whole.proofs.Ring.{Ring}
@@ -26,6 +26,7 @@ use Rattle.whole.proofs.Wholes.{readℤ, atomsℤ, ringℤ, *ℤ-cancel}
 use Rattle.whole.proofs.Solver.{var, _:+_, _:-_, solve}
 use Rattle.whole.proofs.Linear.{linear}
 use Rattle.whole.proofs.Order.{nonneg-plus, nonneg-square}
+use Rattle.whole.proofs.Signs.{times-negative}
 use Rattle.poly.proofs.Domain.{Domain}
 use Rattle.pair.specs.declared.Pair.{Pair}
 use Rattle.pair.specs.Pairs.{pair, pairs, plus, minus, times, multiple, negative, conjugate, norm, one}
@@ -102,13 +103,10 @@ pub norm-times : (a b : Pair) → norm (times a b) ≡ norm a *ℤ norm b
 norm-times a b = atomsℤ (a .re ∷ a .im ∷ b .re ∷ b .im ∷ []) (λ ρ e. simp (e 0, e 1, e 2, e 3, readℤ) (ringℤ ρ _ _ tt))
 
 pub times-conjugate : (a : Pair) → times a (conjugate a) ≡ pair (norm a) (pos 0)
-times-conjugate a = pair-equal (re (a .re) (a .im)) (ap (λ z. z +ℤ a .im *ℤ a .re) (flip (a .re) (a .im)) ∙ +ℤ-invl (a .im *ℤ a .re))
+times-conjugate a = pair-equal (re (a .re) (a .im)) (ap (λ z. z +ℤ a .im *ℤ a .re) (times-negative (a .re) (a .im) ∙ ap negℤ (*ℤ-comm (a .re) (a .im))) ∙ +ℤ-invl (a .im *ℤ a .re))
   where
     re : (x y : ℤ) → x *ℤ x -ℤ y *ℤ negℤ y ≡ x *ℤ x +ℤ y *ℤ y
     re x y = atomsℤ (x ∷ y ∷ []) (λ ρ e. simp (e 0, e 1, readℤ) (ringℤ ρ _ _ tt))
-
-    flip : (x y : ℤ) → x *ℤ negℤ y ≡ negℤ (y *ℤ x)
-    flip x y = atomsℤ (x ∷ y ∷ []) (λ ρ e. simp (e 0, e 1, readℤ) (ringℤ ρ _ _ tt))
 
 pub square-size : (x : ℤ) → x *ℤ x ≡ pos (natAbs x * natAbs x)
 square-size (pos n) = refl

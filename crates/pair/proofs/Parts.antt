@@ -11,16 +11,16 @@
 use mathlib.Core.Path.{_≡_, refl, ap, ap₂, _∙_}
 use mathlib.Core.List.{[], _∷_}
 use Prim.Native.Nat.{ℕ, _+_, _*_, _^_, _≤_, zero-le}
-use native.Mathlib.Nat.{le-refl, le-trans, le-of-eq, mul-le-mul}
+use native.Mathlib.Nat.{le-refl, le-trans, le-of-eq}
 use borrow.Author.Needs.{needs}
 use borrow.Author.Tests.{le-leb}
 use lib.IntN.{ℤ, pos, negℤ, _+ℤ_, _-ℤ_, _*ℤ_, +ℤ-idl, *ℤ-comm, zero-*ℤ}
 use mir.Syntax.{w64}
 use mir.Val.{SFits, toZ, ofZ}
 use Rattle.whole.specs.Number.{Within}
-use Rattle.whole.proofs.Integers.{*ℤ-1, abs-negative, abs-times}
+use Rattle.whole.proofs.Integers.{*ℤ-1, abs-negative}
 use Rattle.whole.proofs.Wholes.{readℤ}
-use Rattle.whole.proofs.Bound.{Bounded, done, _▸_, bounds, within, fits, kept}
+use Rattle.whole.proofs.Bound.{Bounded, done, _▸_, bounds, within, fits, kept, scaled-within}
 use Rattle.pair.specs.declared.Pair.{Pair}
 use Rattle.pair.specs.Pairs.{pair, pairs, plus, minus, negative, times, multiple, conjugate, imaginary, PartsWithin}
 
@@ -94,10 +94,7 @@ minus-within {B} {C} h k = record {
 }
 
 pub multiple-within : {B : ℕ} {a : Pair} (n : ℕ) → PartsWithin B a → PartsWithin (n * B) (multiple (pos n) a)
-multiple-within {B} {a} n h = record { re = part (a .re) (h .re); im = part (a .im) (h .im) }
-  where
-    part : (x : ℤ) → Within B x → Within (n * B) (pos n *ℤ x)
-    part x h = record { size = le-trans (le-of-eq (abs-times (pos n) x)) (mul-le-mul (le-refl n) (h .size)) }
+multiple-within n h = record { re = scaled-within n (h .re); im = scaled-within n (h .im) }
 
 pub times-within : {B C : ℕ} {a b : Pair} → PartsWithin B a → PartsWithin C b → PartsWithin (B * C + B * C) (times a b)
 times-within {B} {C} h k = record {

@@ -8,10 +8,10 @@ use mathlib.Core.Logic.{_≢_, _⊎_, inl, inr, ⊎-elim}
 use Prim.Native.Nat.{ℕ, zero, suc, _+_, _*_}
 use native.Mathlib.Nat.{one-mul}
 use native.Mathlib.Omega.{arith}
-use lib.IntN.{ℤ, pos, negsuc, natAbs, _+ℤ_, _-ℤ_, _*ℤ_, +ℤ-idl, *ℤ-comm, *ℤ-zero, zero-*ℤ}
+use lib.IntN.{ℤ, pos, natAbs, _+ℤ_, _-ℤ_, _*ℤ_, +ℤ-idl, *ℤ-comm, *ℤ-zero, zero-*ℤ}
 use Rattle.whole.specs.Number.{wholes}
 use Rattle.whole.specs.Poly.{Coefficients}
-use Rattle.whole.proofs.Integers.{abs-times, abs-zero}
+use Rattle.whole.proofs.Integers.{abs-times, abs-zero, abs-one}
 use Rattle.whole.proofs.Ring.{Ring, zero-difference}
 use Rattle.whole.proofs.Linear.{linear, plus-parts, abs-parts, one-part}
 use Rattle.whole.proofs.Order.{nonneg-is}
@@ -20,7 +20,7 @@ use Rattle.whole.proofs.Solver.{var, _:*_, solve}
 use Rattle.poly.specs.Terms.{IsUnit}
 use Rattle.poly.proofs.Divisibility.{unit-of-one}
 use Rattle.poly.proofs.RootTwo.{square-not-twice}
-use Rattle.poly.proofs.Wholes.{whole-unit, whole-unit-sign, unit-whole}
+use Rattle.poly.proofs.Wholes.{whole-unit}
 use Rattle.pair.specs.declared.Pair.{Pair}
 use Rattle.pair.specs.Pairs.{pair, pairs, negative, times, conjugate, norm, one, imaginary}
 use Rattle.pair.proofs.Parts.{pair-equal}
@@ -53,14 +53,11 @@ pub data FourUnits (u : Pair) : Type 0 where
 pub unit-is : {u : Pair} → IsUnit pairs u → FourUnits u
 unit-is {u} h = ⊎-elim real unreal (one-square (natAbs (u .re)) (natAbs (u .im)) (ap natAbs (sym (norm-size u) ∙ unit-norm h)))
   where
-    sign : (x : ℤ) → natAbs x ≡ 1 → (x ≡ pos 1) ⊎ (x ≡ negsuc 0)
-    sign x e = whole-unit-sign (unit-whole x e)
-
     real : (natAbs (u .re) ≡ 1) × (natAbs (u .im) ≡ 0) → FourUnits u
-    real e = let z = abs-zero (u .im) (e .1) in ⊎-elim (λ f. plus-one (pair-equal f z)) (λ f. minus-one (pair-equal f z)) (sign (u .re) (e .0))
+    real e = let z = abs-zero (u .im) (e .1) in ⊎-elim (λ f. plus-one (pair-equal f z)) (λ f. minus-one (pair-equal f z)) (abs-one (u .re) (e .0))
 
     unreal : (natAbs (u .re) ≡ 0) × (natAbs (u .im) ≡ 1) → FourUnits u
-    unreal e = let z = abs-zero (u .re) (e .0) in ⊎-elim (λ f. plus-i (pair-equal z f)) (λ f. minus-i (pair-equal z f)) (sign (u .im) (e .1))
+    unreal e = let z = abs-zero (u .re) (e .0) in ⊎-elim (λ f. plus-i (pair-equal z f)) (λ f. minus-i (pair-equal z f)) (abs-one (u .im) (e .1))
 
 -- ---- i is no square of a quotient
 module _ {A : Type 0} {C : Coefficients A} (R : Ring C) where

@@ -5,6 +5,7 @@
 --                               the k-th is C(m, k) times the first of the k-th differences
 --   inPowers-above              no power stands above m
 --   de-casteljau                (u + v)ᵐ times the value at v / (u + v) is what m blends with u and v leave
+--   blends-form                 and is the sum of C(m, k) uᵐ⁻ᵏ vᵏ fₖ
 --   blends-first, blends-last   which at 0 and at 1 is the first and the last of the Bernstein coefficients
 --   inPowers-within, form-within      sizes at ℤ: with Bernstein coefficients of at most B in size the k-th power coefficient is at most C(m, k) 2ᵏ B,
 --                               and a value is at most B
@@ -18,7 +19,7 @@ use Rattle.whole.specs.Poly.{Coefficients, choose}
 use Rattle.whole.specs.Number.{wholes, Within}
 use Rattle.whole.proofs.Integers.{abs-times}
 use Rattle.whole.proofs.Wholes.{wholes-ring}
-use Rattle.whole.proofs.Bound.{abs-plus}
+use Rattle.whole.proofs.Bound.{abs-plus, scaled-within}
 use Rattle.whole.proofs.Ring.{Ring, none-plus, none-times, plus-times, minus-one}
 use Rattle.whole.proofs.Solver.{atoms, read, read-lit, read-lit⁻, ring}
 use Rattle.poly.specs.Terms.{Above}
@@ -59,11 +60,23 @@ module _ {A : Type 0} {C : Coefficients A} (R : Ring C) where
   abbrev pub steps : ℕ → Series A → Series A
   steps = blends C (R .number (negsuc 0)) (R .number (pos 1))
 
+  -- each of a series, as often as its binomial coefficient says
+  abbrev weighted : ℕ → Series A → Series A
+  weighted m f k = R .number (pos (choose m k)) ⊗ f k
+
+  weighted-above : (m : ℕ) (f : Series A) → Above C (weighted m f) m
+  weighted-above m f k h = ap (λ n. R .number (pos n) ⊗ f k) (choose-above m k h) ∙ ap (λ x. x ⊗ f k) (R .number-none) ∙ none-times R (f k)
+
+  -- Pascal's rule
+  weighted-suc : (m : ℕ) (f : Series A) (k : ℕ) → weighted (suc m) f (suc k) ≡ weighted m (tail f) k ⊕ weighted m f (suc k)
+  unfolding choose
+  weighted-suc m f k = ap (λ x. x ⊗ f (suc k)) (R .number-plus (pos (choose m k)) (pos (choose m (suc k)))) ∙ plus-times R _ _ _
+
   abbrev pub inPowers : ℕ → Series A → Series A
   inPowers m f k = R .number (pos (choose m k)) ⊗ steps k f zero
 
   pub inPowers-above : (m : ℕ) (f : Series A) → Above C (inPowers m f) m
-  inPowers-above m f k h = ap (λ n. R .number (pos n) ⊗ steps k f zero) (choose-above m k h) ∙ ap (λ x. x ⊗ steps k f zero) (R .number-none) ∙ none-times R _
+  inPowers-above m f = weighted-above m (λ k. steps k f zero)
 
   -- a blend is u + v times the series, and v times its differences
   parted : (u v f f′ : A) → u ⊗ f ⊕ v ⊗ f′ ≡ (u ⊕ v) ⊗ f ⊕ v ⊗ (R .number (negsuc 0) ⊗ f ⊕ R .number (pos 1) ⊗ f′)
@@ -78,11 +91,6 @@ module _ {A : Type 0} {C : Coefficients A} (R : Ring C) where
       (ap (λ h. steps k h zero) (fun-ext (λ i. parted u v (f i) (f (suc i)))) ∙ blends-linear _ _ (u ⊕ v) v k f (step f) zero)
       ∙ inside _ _ _ _ _
 
-  -- Pascal's rule
-  inPowers-suc : (m : ℕ) (f : Series A) (k : ℕ) → inPowers (suc m) f (suc k) ≡ inPowers m (step f) k ⊕ inPowers m f (suc k)
-  unfolding choose
-  inPowers-suc m f k = ap (λ x. x ⊗ steps (suc k) f zero) (R .number-plus (pos (choose m k)) (pos (choose m (suc k)))) ∙ plus-times R _ _ _
-
   regroup : (p a v x y : A) → p ⊗ a ⊕ v ⊗ (x ⊕ y) ≡ (p ⊗ a ⊕ v ⊗ y) ⊕ v ⊗ x
   regroup p a v x y = atoms R (p ∷ a ∷ v ∷ x ∷ y ∷ []) (λ ρ e. simp (e 0, e 1, e 2, e 3, e 4, read) (ring R ρ _ _ tt))
 
@@ -91,12 +99,25 @@ module _ {A : Type 0} {C : Coefficients A} (R : Ring C) where
   de-casteljau u v zero f = R .times-comm _ _ ∙ R .times-one _
   de-casteljau u v (suc m) f =
       ap (λ x. power C (u ⊕ v) m ⊗ inPowers (suc m) f zero ⊕ v ⊗ x)
-      (ap (form C (u ⊕ v) v m) (fun-ext (inPowers-suc m f)) ∙ form-plus R (u ⊕ v) v m (inPowers m (step f)) (tail (inPowers m f)))
+      (ap (form C (u ⊕ v) v m) (fun-ext (weighted-suc m (λ k. steps k f zero))) ∙ form-plus R (u ⊕ v) v m (inPowers m (step f)) (tail (inPowers m f)))
       ∙ regroup _ _ _ _ _
       ∙ ap₂ _⊕_ (form-shorter R (u ⊕ v) v m (inPowers m f) (inPowers-above m f (suc m) (omega arith)) ∙ sym (form-times R (u ⊕ v) v m _ _)) (sym (form-times R (u ⊕ v) v m v _))
       ∙ sym (form-plus R (u ⊕ v) v m _ _)
       ∙ ap (form C (u ⊕ v) v m) (sym (fun-ext (inPowers-blend u v m f)))
       ∙ de-casteljau u v m (blend C u v f)
+
+  -- ---- as a sum
+  pub blends-form : (u v : A) (m : ℕ) (f : Series A) → blends C u v m f zero ≡ form C u v m (weighted m f)
+  unfolding choose
+  blends-form u v zero f = sym (R .times-comm _ _ ∙ R .times-one (f zero))
+  blends-form u v (suc m) f =
+      blends-form u v m (blend C u v f)
+      ∙ ap (form C u v m) (fun-ext (λ k. inside (R .number (pos (choose m k))) u v (f k) (f (suc k))))
+      ∙ form-plus R u v m (λ k. u ⊗ weighted m f k) (λ k. v ⊗ weighted m (tail f) k)
+      ∙ ap₂ _⊕_ (form-times R u v m u (weighted m f) ∙ sym (form-shorter R u v m (weighted m f) (weighted-above m f (suc m) (omega arith)))) (form-times R u v m v (weighted m (tail f)))
+      ∙ sym (regroup _ _ _ _ _)
+      ∙ ap (λ x. power C u m ⊗ weighted m f zero ⊕ v ⊗ x)
+      (sym (form-plus R u v m (weighted m (tail f)) (tail (weighted m f))) ∙ ap (form C u v m) (fun-ext (λ k. sym (weighted-suc m f k))))
 
   -- ---- the two ends
   pub blends-first : (n : ℕ) (f : Series A) → blends C (R .number (pos 1)) 𝟎 n f ≡ f
@@ -130,15 +151,12 @@ blends-within : {f : Series ℤ} {B : ℕ} (a b : ℤ) (n : ℕ) → ((i : ℕ) 
 blends-within a b zero h i = rw (pow-zero, one-mul) (h i)
 blends-within a b (suc n) h i = rw (pow-suc, mul-assoc) (blends-within a b n (blend-within a b h) i)
 
-multiple-within : {b : ℕ} {x : ℤ} (n : ℕ) → Within b x → Within (n * b) (pos n *ℤ x)
-multiple-within {x} n h = record { size = omega (arith, abs-times (pos n) x, mul-le-mul (le-refl n) (h .size)) }
-
 pub inPowers-within : {f : Series ℤ} {B : ℕ} (m : ℕ) → ((i : ℕ) → Within B (f i)) → (k : ℕ) → Within (choose m k * (2 ^ k * B)) (inPowers wholes-ring m f k)
-inPowers-within m h k = multiple-within (choose m k) (blends-within (negsuc 0) (pos 1) k h zero)
+inPowers-within m h k = scaled-within (choose m k) (blends-within (negsuc 0) (pos 1) k h zero)
 
 pub form-within : {f : Series ℤ} {B : ℕ} (u v m d : ℕ) → ((i : ℕ) → Within B (f i))
     → Within ((u + v) ^ (d + m) * B) (form wholes (pos (u + v)) (pos v) (d + m) (inPowers wholes-ring m f))
 form-within {f} u v m zero h = rw (zero-add, de-casteljau wholes-ring (pos u) (pos v) m f) (blends-within (pos u) (pos v) m h zero)
 form-within {f} u v m (suc d) h =
     rw (suc-add, form-shorter wholes-ring (pos (u + v)) (pos v) (d + m) (inPowers wholes-ring m f) (inPowers-above wholes-ring m f (suc (d + m)) (omega arith)), pow-succ', mul-assoc)
-    (multiple-within (u + v) (form-within u v m d h))
+    (scaled-within (u + v) (form-within u v m d h))

@@ -2,8 +2,8 @@
 --   whole-zero?           whether a number is 0
 --   wholes-domain, wholes-euclid, wholes-bezout     ℤ has no zero divisors, division with a smaller remainder, common divisors a x + b y
 --   twice-whole-some      2 a is not 0 where a is not
---   whole-unit, unit-whole          the units are the numbers of absolute value 1,
---   whole-unit-sign       which are 1 and −1
+--   whole-unit            a unit has absolute value 1,
+--   whole-unit-sign       and is 1 or −1
 --   unit-positive         c u = d with c positive, d not negative and u a unit: u is 1
 --   content-once          a polynomial has one greatest common divisor that is not negative,
 --   positive-content      and, where it is not 0, a positive one
@@ -11,7 +11,7 @@
 --                         then f = r² with r primitive, q = h r and c = c′ h²
 use mathlib.Core.Path.{_≡_, refl, sym, ap, _∙_}
 use mathlib.Core.List.{List, []}
-use mathlib.Core.Logic.{_≢_, _↔_, _⊎_, inl, inr, ⊎-elim}
+use mathlib.Core.Logic.{_≢_, _↔_, _⊎_, ⊎-elim}
 use Prim.Native.Nat.{ℕ, zero, suc, _*_}
 use native.Mathlib.Omega.{arith}
 use lib.IntN.{ℤ, pos, negsuc, natAbs, ℤ-discrete, _*ℤ_}
@@ -20,14 +20,14 @@ use Rattle.whole.specs.Number.{wholes}
 use Rattle.whole.specs.Poly.{at, Same, Divides, Greatest, scaled, square}
 use Rattle.whole.proofs.Division.{quotient-rest, rest-below}
 use Rattle.whole.proofs.Divisor.{divides-abs, greatest-says, greatest-is, greatest-once}
-use Rattle.whole.proofs.Integers.{abs-times, abs-zero, *ℤ-domain, *ℤ-1}
+use Rattle.whole.proofs.Integers.{abs-times, abs-zero, *ℤ-domain, *ℤ-1, abs-one}
 use Rattle.whole.proofs.Linear.{linear, times-parts}
 use Rattle.whole.proofs.Order.{nonneg-times, nonneg-square, nonneg-is}
 use Rattle.whole.proofs.Wholes.{wholes-ring}
 use Rattle.poly.specs.Terms.{IsUnit, Primitive, twice}
 use Rattle.poly.proofs.Lists.{scaled-one}
 use Rattle.poly.proofs.Domain.{Domain, twice-some}
-use Rattle.poly.proofs.Divisibility.{Bezout, unit-of-one}
+use Rattle.poly.proofs.Divisibility.{Bezout}
 use Rattle.poly.proofs.Euclid.{Euclid, euclid-bezout}
 use Rattle.poly.proofs.Content.{content, greatest-some}
 use Rattle.poly.proofs.Squares.{square-quotient}
@@ -62,18 +62,7 @@ pub whole-unit : {u : ℤ} → IsUnit wholes u → natAbs u ≡ 1
 whole-unit {u} h = let v = h (pos 1) in one-of-product (natAbs u) (natAbs (v .factor)) (sym (abs-times u (v .factor)) ∙ ap natAbs (v .is))
 
 pub whole-unit-sign : {u : ℤ} → IsUnit wholes u → (u ≡ pos 1) ⊎ (u ≡ negsuc 0)
-whole-unit-sign {u} h = by u (whole-unit h)
-  where
-    by : (u : ℤ) → natAbs u ≡ 1 → (u ≡ pos 1) ⊎ (u ≡ negsuc 0)
-    by (pos n) e = inl (ap pos e)
-    by (negsuc n) e = inr (ap negsuc (omega arith))
-
-pub unit-whole : (u : ℤ) → natAbs u ≡ 1 → IsUnit wholes u
-unit-whole u e = unit-of-one wholes-ring (by u e)
-  where
-    by : (u : ℤ) → natAbs u ≡ 1 → Divides wholes u (pos 1)
-    by (pos n) e = record { factor = pos 1; is = *ℤ-1 (pos n) ∙ ap pos e }
-    by (negsuc n) e = record { factor = negsuc 0; is = ap pos (omega arith) }
+whole-unit-sign {u} h = abs-one u (whole-unit h)
 
 pub unit-positive : {c u d : ℤ} → pos 0 <ℤ c → pos 0 ≤ℤ d → c *ℤ u ≡ d → IsUnit wholes u → u ≡ pos 1
 unit-positive {c} {u} {d} h k e i = ⊎-elim (λ one. one) minus (whole-unit-sign i)

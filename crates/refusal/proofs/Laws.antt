@@ -1,5 +1,5 @@
 -- Laws of the refusal table.
---   number-positive  no refusal has the number 0, which stands for an answer
+--   number-positive, number-some      no refusal has the number 0, which stands for an answer
 --   number-once      a number names one refusal
 --   first-once       a call's causes leave one number
 --   NoneHolds, first-none     where that number is 0, no cause holds
@@ -30,6 +30,9 @@ number-positive Root = omega arith
 number-positive Room = omega arith
 number-positive Thirds = omega arith
 number-positive DeadEnd = omega arith
+
+pub number-some : (r : Refusal) → numberOf r ≡ 0 → ⊥
+number-some r e = omega (arith, number-positive r)
 
 -- the table's row of a number; of any other number some refusal
 named : ℕ → Refusal

@@ -1,10 +1,8 @@
--- Roots over pairs: what the search for one asks of pairs, and its steps from the top down.
---   kept-none           0 has no positive part
+-- The search for a root over pairs, from the top down.
 --   candidate-is        what two quotients give is the candidate
 --   quadratic-above     three coefficients have no power above the second
 use mathlib.Core.Path.{_≡_, refl, sym, ap, _∙_}
 use mathlib.Core.List.{List}
-use mathlib.Core.Logic.{inl, inr}
 use Prim.Native.Nat.{zero, suc}
 use native.Mathlib.Omega.{arith}
 use Rattle.whole.specs.Poly.{at, Same}
@@ -17,14 +15,8 @@ use Rattle.pair.proofs.Parts.{zero-within}
 use Rattle.root.specs.declared.pairs.Five.{Five}
 use Rattle.root.specs.declared.pairs.Quadratic.{Quadratic}
 use Rattle.root.specs.Search.{Each, SmallQuotient, Candidate}
-use Rattle.root.specs.Pairs.{five, quadratic, SmallPair, Kept}
+use Rattle.root.specs.Pairs.{five, quadratic, SmallPair}
 
--- ---- signs
-pub kept-none : Kept (pairs .none) → ⊥
-kept-none (inl h) = h .lt
-kept-none (inr (e, h)) = h .lt
-
--- ---- from the top down
 module _ (e : Five) (s : Pair) (w : Quadratic) (lead : w .b2 ≡ s) (b : SmallPair (w .b2))
     (f1 : SmallQuotient pairs SmallPair (e .e3) (twice pairs s) (w .b1))
     (f0 : SmallQuotient pairs SmallPair (minus (e .e2) (times (w .b1) (w .b1))) (twice pairs s) (w .b0)) where

@@ -7,6 +7,7 @@
 --   fits k _ refl     what has been read fits its width
 --   within k _ refl   what has been read is at most a bound
 --   abs-plus          the triangle inequality
+--   scaled-within     the bound of a multiple
 --   within-stable     what is not out of its bound is within it
 --   fits-within, within-fits      what a bound says of the width, and the other way
 --   read-back tt h    a number with a bound is read back from the bits of an i64
@@ -21,7 +22,7 @@ use Prim.Native.Nat.{ℕ, zero, suc, _+_, _*_, _^_, _≤_, _<_, zero-le}
 use native.Mathlib.Decide.{decLe}
 use native.Mathlib.Nat.{le-refl, le-trans, le-of-eq, add-le-add, mul-le-mul}
 use lib.Dec.{T, leb, ltb, ltb→lt}
-use lib.IntN.{ℤ, natAbs, _+ℤ_}
+use lib.IntN.{ℤ, pos, natAbs, _+ℤ_, _*ℤ_}
 use borrow.Author.Tests.{leb-true, ltb-true}
 use mir.Syntax.{Width, w64}
 use mir.Val.{SFits, hbits, toZ, ofZ}
@@ -72,6 +73,9 @@ val-bound : {Bs : List ℕ} {ρ : List ℤ} → Bounded Bs ρ → (e : Ex) → n
 val-bound {Bs} {ρ} k e = subst (λ z. natAbs z ≤ bound Bs e) (sym (val-is wholes-ring ρ e)) (eval-bound k e)
 
 -- ---- widths
+pub scaled-within : {b : ℕ} {x : ℤ} (n : ℕ) → Within b x → Within (n * b) (pos n *ℤ x)
+scaled-within {x} n h = record { size = le-trans (le-of-eq (abs-times (pos n) x)) (mul-le-mul (le-refl n) (h .size)) }
+
 pub within-stable : {b : ℕ} {x : ℤ} → ((Within b x → ⊥) → ⊥) → Within b x
 within-stable {b} {x} h = record { size = Dec·not-not (decLe (natAbs x) b) .0 (λ n. h (λ w. n (w .size))) }
 

@@ -1,6 +1,7 @@
 -- ℤ of `lib.IntN`: the ring laws that the library leaves out, absolute values, and no zero divisors.
 --   *ℤ-plus, *ℤ-assoc, *ℤ-1      products distribute over sums, are associative, and 1 is neutral
 --   abs-negative, abs-times      natAbs of a negative and of a product
+--   abs-one                      only 1 and −1 have absolute value 1
 --   abs-zero, *ℤ-domain          only 0 has absolute value 0; a product is 0 only where a factor is
 -- Everything else of ℤ as a ring is the solver's: see Wholes.
 use mathlib.Core.Path.{_≡_, refl, sym, ap, ap₂, _∙_}
@@ -65,6 +66,10 @@ abs-times (negsuc a) (negsuc b) = refl
 pub abs-zero : (a : ℤ) → natAbs a ≡ 0 → a ≡ pos 0
 abs-zero (pos n) e = ap pos e
 abs-zero (negsuc n) e = absurd (omega arith)
+
+pub abs-one : (a : ℤ) → natAbs a ≡ 1 → (a ≡ pos 1) ⊎ (a ≡ negsuc 0)
+abs-one (pos n) e = inl (ap pos e)
+abs-one (negsuc n) e = inr (ap negsuc (omega arith))
 
 ℕ-domain : (m n : ℕ) → m * n ≡ 0 → (m ≡ 0) ⊎ (n ≡ 0)
 ℕ-domain zero n e = inl refl

@@ -10,7 +10,8 @@ use Rattle.poly.proofs.Top.{top-same, top-scaled}
 use Rattle.pair.specs.Pairs.{pair, pairs, imaginary}
 use Rattle.pair.proofs.Laws.{pairs-ring, pairs-domain}
 use Rattle.root.specs.Pairs.{quadratic, LeadKept}
-use Rattle.curve.proofs.Signs.{first-top, lead-same, lead-first-found}
+use Rattle.root.proofs.Leads.{lead-same}
+use Rattle.curve.proofs.Signs.{first-top, lead-first-found}
 use Rattle.curve.proofs.Turned.{imaginary-some, turned-all, turned-twice}
 use Rattle.curve.proofs.preimages.turned_root.Statement.{statement}
 use Rattle.curve.proofs.preimages.turned_root.Tie as tie

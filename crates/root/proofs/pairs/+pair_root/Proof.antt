@@ -17,7 +17,6 @@ use Rattle.root.specs.declared.pairs.Quadratic.{Quadratic}
 use Rattle.root.specs.Search.{SmallRoot}
 use Rattle.root.specs.Pairs.{five, quadratic, SmallPair, Kept, IsPairRoot}
 use Rattle.root.proofs.Candidates.{odd-no-root}
-use Rattle.root.proofs.Quadratics.{kept-none}
 use Rattle.root.proofs.Shifting.{raised-each, raised-top, root-constant, lowered-root, no-lowered-root}
 use Rattle.root.proofs.pairs.pair_root.Reads as pair-root
 use Rattle.root.proofs.pairs.pair_root.Kinds as pair-root-kinds
@@ -27,6 +26,7 @@ use Rattle.root.proofs.pairs.raised.Reads as raised-reads
 use Rattle.root.proofs.pairs.quadratic_root.Reads as quadratic-root-reads
 use Rattle.root.proofs.pairs.+pair_root.{statement}
 use Rattle.root.proofs.pairs.+pair_root.Tie.{close}
+use Rattle.root.proofs.Leads.{kept-none}
 
 abbrev μ-pair-root : Measures 0 pair-root-kinds.ps ℕ
 μ-pair-root κs a = 4 - a .1 .0
