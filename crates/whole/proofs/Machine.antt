@@ -2,7 +2,7 @@
 -- bits is read by `kept` (Bound); a parameter of which nothing is known but `c .fits .x` is read back by `toZ-ofZ w64 _ (c .fits .x)`.
 --   same-bits                what `==` tells
 --   nonzero-bits             a divisor other than 0 has bits other than 0
---   cast-asks, cast-gives    what `x as u64` of a number that is not negative asks, and what it gives
+--   cast-asks                what `x as u64` of a number that is not negative asks
 use mathlib.Core.Path.{_≡_, refl, sym, ap, _∙_}
 use mathlib.Core.Logic.{_≢_}
 use Prim.Native.Nat.{zero, suc, _<_}
