@@ -12,6 +12,7 @@ use lib.ListN.{length}
 use Rattle.whole.specs.Poly.{at, Same, sum, scaled, product, square, choose}
 use Rattle.whole.specs.Number.{wholes}
 use Rattle.whole.proofs.Wholes.{wholes-ring, atomsℤ, readℤ, read-negsuc, ringℤ, *ℤ-cancel}
+use Rattle.whole.proofs.Signs.{negative-square}
 use Rattle.poly.specs.Terms.{Above}
 use Rattle.poly.proofs.Lists.{at-sum, at-scaled, sum-comm, sum-same, square-same, scaled-sum, square-scaled}
 use Rattle.poly.proofs.Forms.{form}
@@ -62,9 +63,6 @@ module _ (ps : List Pair) (W : List ℤ) (h : ℤ) where
     left-over (product wholes W (reals (powerForm ps))) (scaled wholes h (imaginaries D)),
     left-over (product wholes W (imaginaries (powerForm ps))) (scaled wholes (negℤ h) (reals D)),
   )
-
-  negative-square : (h : ℤ) → negℤ h *ℤ negℤ h ≡ h *ℤ h
-  negative-square h = atomsℤ (h ∷ []) (λ ρ e. simp (e 0, readℤ) (ringℤ ρ _ _ tt))
 
   pub offset-distance : Same wholes (sum wholes (square wholes across) (square wholes upward)) (scaled wholes (h *ℤ h) (squaredLength D))
   unfolding squaredLength

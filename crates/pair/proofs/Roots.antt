@@ -25,7 +25,7 @@ use Rattle.whole.proofs.Integers.{abs-times}
 use Rattle.whole.proofs.Wholes.{readℤ, atomsℤ, ringℤ}
 use Rattle.whole.proofs.Linear.{linear, plus-parts, minus-parts, negative-parts, abs-parts}
 use Rattle.whole.proofs.Order.{nonneg-is, compare}
-use Rattle.whole.proofs.Signs.{negated-positive, times-negative}
+use Rattle.whole.proofs.Signs.{negated-positive, times-negative, negative-square}
 use Rattle.poly.proofs.Domain.{roots-agree}
 use Rattle.pair.specs.declared.Pair.{Pair}
 use Rattle.pair.specs.declared.PairRoot.{PairRoot}
@@ -177,9 +177,6 @@ module _ (z : Pair) (n : ℕ) (e : pos (n * n) ≡ norm z) where
 same-square : (r : Pair) (u v : ℤ) → u *ℤ u ≡ r .re *ℤ r .re → v *ℤ v ≡ r .im *ℤ r .im → u *ℤ v ≡ r .re *ℤ r .im → times (pair u v) (pair u v) ≡ times r r
 same-square r u v d e f = pair-equal (ap₂ _-ℤ_ d e) (ap₂ _+ℤ_ f (*ℤ-comm v u ∙ f ∙ *ℤ-comm (r .re) (r .im)))
 
-flip-square : (b : ℤ) → negℤ b *ℤ negℤ b ≡ b *ℤ b
-flip-square b = atomsℤ (b ∷ []) (λ ρ e. simp (e 0, readℤ) (ringℤ ρ _ _ tt))
-
 negative-is : (t : ℤ) → t <ℤ pos 0 → negℤ (pos (natAbs t)) ≡ t
 negative-is (pos n) h = absurd (omega linear)
 negative-is (negsuc n) h = refl
@@ -208,7 +205,7 @@ module _ {z : Pair} (r : Pair) (e : times r r ≡ z) {u v : ℤ} (p : u ≡ pos 
       positive = omega (linear, twice, plus-parts product product)
 
   pub square-below : z .im <ℤ pos 0 → times (pair u (negℤ v)) (pair u (negℤ v)) ≡ z
-  square-below h = same-square r u (negℤ v) first (flip-square v ∙ second) (times-negative u v ∙ ap negℤ both ∙ negative-is product below) ∙ e
+  square-below h = same-square r u (negℤ v) first (negative-square v ∙ second) (times-negative u v ∙ ap negℤ both ∙ negative-is product below) ∙ e
     where
       below : product <ℤ pos 0
       below = omega (linear, twice, plus-parts product product)

@@ -1,5 +1,5 @@
 -- Signs of ℤ, said by products of two numbers, so that no proof splits by the sign of one.
---   times-negative                        a product with a negative
+--   times-negative, negative-square       a product with a negative, and the square of one
 --   negated-positive                      what is not positive, and not 0, has a positive negative
 --   mixed-times                           a product of a positive number and a negative one
 --   positive-cancel                       a factor that is not negative is taken off a positive product
@@ -24,6 +24,9 @@ negated-positive (negsuc m) h n = omega linear
 
 pub times-negative : (k z : ℤ) → k *ℤ negℤ z ≡ negℤ (k *ℤ z)
 times-negative k z = atomsℤ (k ∷ z ∷ []) (λ ρ e. simp (e 0, e 1, readℤ) (ringℤ ρ _ _ tt))
+
+pub negative-square : (x : ℤ) → negℤ x *ℤ negℤ x ≡ x *ℤ x
+negative-square x = atomsℤ (x ∷ []) (λ ρ e. simp (e 0, readℤ) (ringℤ ρ _ _ tt))
 
 pub positive-cancel : {k z : ℤ} → pos 0 ≤ℤ k → pos 0 <ℤ (k *ℤ z) → pos 0 <ℤ z
 positive-cancel {k} {z} h p = by (compare z (pos 0))
