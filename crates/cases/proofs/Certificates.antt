@@ -33,7 +33,7 @@ use Rattle.curve.proofs.Coprime.{coprime-primitive, primitive-coprime}
 use Rattle.curve.proofs.Lengths.{generated-squared, squaredLength-lead-positive}
 use Rattle.curve.proofs.Norms.{generated-content}
 use Rattle.curve.proofs.Signs.{first-top}
-use Rattle.cases.proofs.Lower.{Between, between-no-square, same-padded, above-zeros, values-square}
+use Rattle.cases.proofs.Laws.{Between, between-no-square, same-padded, above-zeros, values-square}
 
 pub not-squared : (D : List Pair) (x y : ℤ) → Between (value wholes x (squaredLength D) *ℤ value wholes y (squaredLength D)) → NotSquared D
 not-squared D x y b c q h s = between-no-square b (c *ℤ (value wholes x q *ℤ value wholes y q)) (values-square wholes-ring (squaredLength D) q c x y s)

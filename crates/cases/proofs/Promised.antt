@@ -42,7 +42,7 @@ use Rattle.offset.specs.declared.OffsetAnswer.the-variants.{Written}
 use Rattle.offset.specs.Offsets.{offsetCurve, offsetNumbers, needs, beyond, no-root, no-room, OffsetBy}
 use Rattle.join.specs.Listing as join
 use Rattle.cases.specs.Rows.{Claim, SaysAll, CurveHolds, Long, JoinsHold, filled}
-use Rattle.cases.proofs.Lower.{Between, filled-length, filled-fills, not-squared-moves, square-moves}
+use Rattle.cases.proofs.Laws.{Between, filled-length, filled-fills, not-squared-moves, square-moves}
 use Rattle.cases.proofs.Certificates.{not-squared, not-generated}
 
 -- ---- verdicts

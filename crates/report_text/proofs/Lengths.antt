@@ -1,4 +1,4 @@
--- The numbers of a length are not negative. (This file belongs to the crate `measure`.)
+-- The numbers of a length are not negative, so they are written without a sign.
 --   root-small           q's coefficients are small enough for `length_by`
 --   length-nonneg        A is not negative: for a quintic 3 A is the sum of 5 (6 b0 + 3 b1 + 2 b2)², 15 (b1 + b2)² and b2², over both parts of w
 --   denominator-nonneg   nor is B

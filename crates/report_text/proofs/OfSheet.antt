@@ -1,4 +1,4 @@
--- What a sheet's outcome tells of its curves and of its faults. (This file belongs to the crate `sheet`, `number-small` to `refusal`.)
+-- What a sheet's outcome tells of its curves and of its faults.
 --   no-answer         what is given is not refused
 --   read-in-range     a curve that is read is in range
 --   read-listed       a number up to the count is not refused

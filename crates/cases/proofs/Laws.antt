@@ -1,12 +1,9 @@
--- Laws that belong into lower crates.
--- Into `whole`:
+-- What the certificates and the promises of a row stand on.
 --   Between, between-no-square     a number strictly between two squares that follow each other is no square
---   filled-length, filled-fills    an area made of an answer and zeros (`filled`, of specs/Rows, goes with them)
--- Into `poly`:
---   same-padded            two lists, one of them with zeros behind it, are the same polynomial
---   above-zeros            nothing stands above a power that has only zeros behind it
---   values-square          where p = c q², p(x) p(y) is the square of c q(x) q(y)
--- Into `curve`:
+--   filled-length, filled-fills    an area made of an answer and zeros
+--   same-padded                    two lists, one of them with zeros behind it, are the same polynomial
+--   above-zeros                    nothing stands above a power that has only zeros behind it
+--   values-square                  where p = c q², p(x) p(y) is the square of c q(x) q(y)
 --   not-squared-moves, square-moves      a curve whose N is no c q², or one, is not still
 use mathlib.Core.Path.{_≡_, refl, sym, ap, ap₂, _∙_}
 use mathlib.Core.List.{List, [], _∷_, _++_}
@@ -30,7 +27,7 @@ use Rattle.curve.specs.Verdicts.{Still, NotSquared, SquareOf}
 use Rattle.curve.proofs.Lengths.{squaredLength-zero}
 use Rattle.cases.specs.Rows.{filled}
 
--- ---- whole
+-- ---- numbers and areas
 pub record Between (v : ℤ) : Type 0 where
   pub k : ℕ
   pub n : ℕ
@@ -50,7 +47,7 @@ filled-length room vs h = omega (arith, length-append vs (replicate (room - leng
 pub filled-fills : (room : ℕ) (vs : List ℤ) → length vs ≤ room → Fills vs (filled room vs)
 filled-fills room vs h = ap (λ n. vs ++ replicate (n - length vs) (pos 0)) (sym (filled-length room vs h))
 
--- ---- poly
+-- ---- polynomials
 module _ {A : Type 0} (C : Coefficients A) where
   at-zeros : (n k : ℕ) → at C (replicate n (C .none)) k ≡ C .none
   at-zeros zero k = refl
@@ -85,7 +82,7 @@ module _ {A : Type 0} {C : Coefficients A} (R : Ring C) where
       at-point : (z : A) → value C z p ≡ c ⊗ (value C z q ⊗ value C z q)
       at-point z = value-same R z p (scaled C c (square C q)) e ∙ value-scaled R z c (square C q) ∙ ap (λ t. c ⊗ t) (value-product R z q q)
 
--- ---- curve
+-- ---- curves
 pub not-squared-moves : (D : List Pair) → NotSquared D → Still D → ⊥
 unfolding scaled product
 not-squared-moves D n z = n (pos 1) [] (omega linear) (squaredLength-zero D .0 z)
