@@ -19,6 +19,7 @@ mod pair;
 mod poly;
 mod refusal;
 mod report;
+mod runs;
 mod script;
 mod sheet;
 mod verdict;
@@ -40,7 +41,10 @@ A script line is `LABEL: CALL`; empty lines and lines that begin with # are skip
        inflections CURVE                   offset CURVE by H in ROOM
        build P0 from W0 W1                 build P0 from W0 W1 W2
        joins A Z over T in ROOM
-A point or pair is (x,y), a curve 4 or 6 points with blanks between.
+       check RUNS                          erase RUNS
+       read NUMBER of RUNS                 find NUMBER of RUNS
+       append C3 POINTS to RUNS            append C5 POINTS to RUNS
+A point or pair is (x,y), a curve 4 or 6 points with blanks between; a run of a sheet's bytes is (BYTE,HOW MANY).
 A sheet text has lines `C3 POINTS`, `C5 POINTS`, `erased N`, `bytes 00 11 ff`, and # for comments.
 Status 0 is an answer, 1 a sheet or call refused, 2 a mistake in the command line or in a text.
 ";

@@ -8,6 +8,7 @@ use crate::measure::{inflections, length};
 use crate::offset::offset;
 use crate::pair::{pair, Pair};
 use crate::refusal::Refusal;
+use crate::runs;
 use crate::sheet::record_bytes;
 use crate::verdict::{recognise, Ph, Pre, Verdict};
 use std::fmt::Display;
@@ -41,7 +42,7 @@ fn answer_line(line: &str) -> Result<String, String> {
         "offset" => offset_text(rest)?,
         "build" => build_text(rest)?,
         "joins" => joins_text(rest)?,
-        _ => return Err(format!("unknown call `{name}`")),
+        _ => runs::answer(name, rest).ok_or(format!("unknown call `{name}`"))??,
     };
     Ok(format!("{label}: {answer}"))
 }
@@ -125,7 +126,7 @@ fn cleared(refusal: Refusal, room: usize) -> String {
 }
 
 /// The values with one blank between them.
-fn row<T: Display>(values: &[T]) -> String {
+pub fn row<T: Display>(values: &[T]) -> String {
     let texts: Vec<String> = values.iter().map(T::to_string).collect();
     texts.join(" ")
 }
@@ -137,13 +138,13 @@ fn filled<T: Display + Copy + Default>(values: &[T], count: usize) -> String {
     row(&values)
 }
 
-fn number<T: FromStr>(word: &str) -> Result<T, String> {
+pub fn number<T: FromStr>(word: &str) -> Result<T, String> {
     let read = word.parse();
     read.map_err(|_| format!("`{word}` is no number, or too far from 0"))
 }
 
 /// A pair or point as `(x,y)`; its parts may be any 64-bit numbers.
-fn a_pair(word: &str) -> Result<Pair, String> {
+pub fn a_pair(word: &str) -> Result<Pair, String> {
     let inside = word.strip_prefix('(').and_then(|x| x.strip_suffix(')'));
     let parts = inside.and_then(|x| x.split_once(','));
     let (x, y) = parts.ok_or_else(|| format!("`{word}` is no `(x,y)`"))?;

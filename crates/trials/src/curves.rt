@@ -15,7 +15,7 @@ pub(crate) fn point(x: i64, y: i64) -> Pair {
     Pair { re: x, im: y }
 }
 
-fn cubic(n: &[i64; 16]) -> Curve {
+fn cubic(n: &[i64; 64]) -> Curve {
     Curve::Cubic(Cubic {
         p0: point(n[0], n[1]),
         p1: point(n[2], n[3]),
@@ -24,7 +24,7 @@ fn cubic(n: &[i64; 16]) -> Curve {
     })
 }
 
-fn quintic(n: &[i64; 16]) -> Curve {
+fn quintic(n: &[i64; 64]) -> Curve {
     Curve::Quintic(Quintic {
         p0: point(n[0], n[1]),
         p1: point(n[2], n[3]),
@@ -81,6 +81,6 @@ pub(crate) fn recognise(curve: Curve) {
 }
 
 // Eight numbers are a cubic, twelve a quintic.
-pub(crate) fn curve_of(n: &[i64; 16], count: usize) -> Curve {
+pub(crate) fn curve_of(n: &[i64; 64], count: usize) -> Curve {
     if count < 12 { cubic(n) } else { quintic(n) }
 }

@@ -52,7 +52,7 @@ fn say_listed(count: u8, area: &[i64]) {
     say_area(area, count as usize * 6);
 }
 
-fn joins(area: &mut [i64], n: &[i64; 16]) {
+fn joins(area: &mut [i64], n: &[i64; 64]) {
     let a = point(n[0], n[1]);
     let z = point(n[2], n[3]);
     let t = point(n[4], n[5]);
@@ -66,7 +66,7 @@ fn joins(area: &mut [i64], n: &[i64; 16]) {
 }
 
 // The room is the last number of a call.
-fn last(n: &[i64; 16], count: usize) -> i64 {
+fn last(n: &[i64; 64], count: usize) -> i64 {
     match count {
         7 => n[6],
         10 => n[9],
@@ -75,7 +75,7 @@ fn last(n: &[i64; 16], count: usize) -> i64 {
 }
 
 // Seven numbers are two legs, a travel and a room; else a curve, a distance and a room.
-fn answer(area: &mut [i64], n: &[i64; 16], count: usize) {
+fn answer(area: &mut [i64], n: &[i64; 64], count: usize) {
     match count {
         7 => joins(area, n),
         10 => offset(area, curve_of(n, 8), n[8]),
@@ -83,7 +83,7 @@ fn answer(area: &mut [i64], n: &[i64; 16], count: usize) {
     }
 }
 
-pub(crate) fn lend(n: &[i64; 16], count: usize) {
+pub(crate) fn lend(n: &[i64; 64], count: usize) {
     let mut space = [7i64; 100];
     let lent = room(last(n, count));
     answer(&mut space[..lent], n, count);

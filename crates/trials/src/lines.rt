@@ -7,6 +7,7 @@ use crate::curves::curve_of;
 use crate::lent::lend;
 use crate::measures;
 use crate::numbers::numbers;
+use crate::sheets;
 use crate::words::say;
 
 // The first place from `from` on that has the byte, or the text's end.
@@ -25,25 +26,44 @@ fn find(text: &[u8], from: usize, byte: u8) -> usize
     at
 }
 
-// The calls' names differ in their first letter.
-fn call(text: &[u8]) {
-    if text.len() < 3 {
+// `C3` or `C5`, the curve's points and the runs of the sheet. The kind stands at a place of its own.
+fn append(text: &[u8], area: &mut [u8]) {
+    if text.len() < 12 {
         return;
     }
-    let mut n = [0i64; 16];
+    let mut n = [0i64; 64];
+    let count = numbers(&text[11..], &mut n);
+    let points = if text[10] == b'3' { 8 } else { 12 };
+    sheets::append(area, &n, count, curve_of(&n, points), points);
+}
+
+// The calls' names differ in their first letter, but for two that differ in their third.
+fn call(text: &[u8], area: &mut [u8]) {
+    if text.len() < 5 {
+        return;
+    }
+    let mut n = [0i64; 64];
     let count = numbers(text, &mut n);
     match text[2] {
-        b'r' => curves::recognise(curve_of(&n, count)),
+        b'r' => {
+            if text[4] == b'a' {
+                sheets::part(area, &n, count, b'r');
+            } else {
+                curves::recognise(curve_of(&n, count));
+            }
+        }
         b'l' => measures::length(curve_of(&n, count)),
         b'i' => measures::inflections(curve_of(&n, count)),
         b'o' | b'j' => lend(&n, count),
         b'b' => measures::build(&n, count),
+        b'c' | b'e' => sheets::whole(area, &n, count, text[2]),
+        b'f' => sheets::part(area, &n, count, b'f'),
+        b'a' => append(text, area),
         _ => say(b"no such call"),
     }
-    say(b"\n");
 }
 
-fn line(text: &[u8]) {
+fn line(text: &[u8], area: &mut [u8]) {
     if text.len() == 0 {
         return;
     }
@@ -53,14 +73,16 @@ fn line(text: &[u8]) {
     let colon = find(text, 0, b':');
     say(&text[..colon]);
     say(b": ");
-    call(&text[colon..]);
+    call(&text[colon..], area);
+    say(b"\n");
 }
 
-pub(crate) fn all(text: &[u8]) {
+// The area is what the sheets are made in.
+pub(crate) fn all(text: &[u8], area: &mut [u8]) {
     let mut at: usize = 0;
     while at < text.len() {
         let end = find(text, at, b'\n');
-        line(&text[at..end]);
+        line(&text[at..end], area);
         at = end + 1;
     }
 }

@@ -65,7 +65,7 @@ fn say_built(answer: BuildAnswer) {
 }
 
 // Six numbers are a cubic's first point and pairs, eight a quintic's.
-pub(crate) fn build(n: &[i64; 16], count: usize) {
+pub(crate) fn build(n: &[i64; 64], count: usize) {
     let p0 = point(n[0], n[1]);
     let w0 = point(n[2], n[3]);
     let w1 = point(n[4], n[5]);

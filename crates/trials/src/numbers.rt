@@ -31,7 +31,7 @@ fn signed(negative: bool, n: u64) -> i64 {
 // The next number's index, once a number has ended.
 fn past(count: usize, inside: bool) -> usize {
     if inside {
-        if count < 16 {
+        if count < 64 {
             return count + 1;
         }
     }
@@ -39,13 +39,13 @@ fn past(count: usize, inside: bool) -> usize {
 }
 
 // Writes the numbers, as far as there is room, and says how many there are.
-pub(crate) fn numbers(text: &[u8], out: &mut [i64; 16]) -> usize {
+pub(crate) fn numbers(text: &[u8], out: &mut [i64; 64]) -> usize {
     let mut count: usize = 0;
     let mut n: u64 = 0;
     let mut negative = false;
     let mut inside = false;
     let mut at: usize = 0;
-    while at < text.len() && count < 16 {
+    while at < text.len() && count < 64 {
         let b = text[at];
         if is_digit(b) {
             n = tenfold(n, digit(b));

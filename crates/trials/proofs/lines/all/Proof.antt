@@ -1,15 +1,16 @@
 -- `lines::all` is safe, and ends: each line begins behind the one before.
-use Prim.Native.Nat.{_-_, _≤_}
+use mathlib.Core.Path.{_≡_}
+use Prim.Native.Nat.{_-_}
 use borrow.Author.Needs.{needs}
 use lib.ListN.{length}
 use Rattle.trials.proofs.lines.all.Statement.{statement}
 use Rattle.trials.proofs.lines.all.Tie as tie
 
 abbrev Inv-loop : tie.InvT-loop
-Inv-loop text at₀ at = at₀ ≤ at
+Inv-loop text area₀ at₀ area at = length area ≡ length area₀
 
 abbrev μ-loop : tie.MeasureT-loop
-μ-loop text at₀ at = length text - at
+μ-loop text area₀ at₀ area at = length text - at
 
 loop-holds : tie.Need-loop-holds Inv-loop μ-loop
 loop-holds c = search needs
@@ -38,6 +39,9 @@ loop-less c = search needs
 loop-again : tie.Need-loop-again Inv-loop μ-loop
 loop-again c = search needs
 
+same-length : tie.Need-same-length Inv-loop μ-loop
+same-length c = search needs
+
 returns : tie.Need-returns Inv-loop μ-loop
 returns c = search needs
 
@@ -56,4 +60,5 @@ all-spec =
     add-at
     loop-less
     loop-again
+    same-length
     returns)
