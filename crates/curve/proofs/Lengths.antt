@@ -10,6 +10,7 @@
 --   squaredLength-top             the highest power of N is twice that of D,
 --   squaredLength-lead-positive   and its coefficient is positive
 --   squaredLength-zero            N is 0 exactly where D is
+--   not-squared-moves             so where N is no c q², D is not 0
 --   generated-some                D = κ w², and not 0: κ is not 0
 --   generated-squared             D = κ w² gives N = |κ|² (|w|²)²
 --   squared-above                 N = c q²: q has no power above those of D
@@ -42,7 +43,7 @@ use Rattle.pair.proofs.Laws.{pairs-ring, norm-zero, norm-some}
 use Rattle.pair.proofs.Divisors.{pair-zero?}
 use Rattle.root.specs.Roots.{LeadPositive}
 use Rattle.curve.specs.Curves.{reals, imaginaries, squaredLength}
-use Rattle.curve.specs.Verdicts.{Squared, Generated, Still}
+use Rattle.curve.specs.Verdicts.{Squared, NotSquared, Generated, Still}
 
 -- ---- N as a series, from D as one
 abbrev pub re-of : Series Pair → Series ℤ
@@ -158,6 +159,10 @@ pub squaredLength-zero : (D : List Pair) → Same pairs D [] ↔ Same wholes (sq
 unfolding squaredLength sum product
 squaredLength-zero D =
     (λ z. squaredLength-same D [] z, λ z. ⊎-elim (λ e. e) (λ t. absurd (top-some (squaredLength-top (t .1)) z)) (find-top pair-zero? D))
+
+pub not-squared-moves : (D : List Pair) → NotSquared D → Still D → ⊥
+unfolding scaled product
+not-squared-moves D h z = h (pos 1) [] (omega linear) (squaredLength-zero D .0 z)
 
 -- ---- multiples
 squaredLength-constant : (κ : Pair) → Same wholes (squaredLength (κ ∷ [])) (norm κ ∷ [])

@@ -7,7 +7,7 @@ pub mod Sizes
 pub mod Derivative
 pub mod PowerForms
 pub mod SquaredLegs
-pub mod Ends
+pub mod EndLegs
 pub mod Lengthening
 pub mod Conjugates
 pub mod Coprime

@@ -4,6 +4,7 @@
 --   OfCurve D                  D is that of a curve in range
 --   Squarely D l s             besides, l is its highest power, and N = c q²
 --   Slight                     a part of D of a curve in range: no coefficient above 1,280,000 in size
+--   NormsSquare, EndsSquare    |a|² |z|² is a square; so it is of the first and the last leg of these points
 --   IsHighest                  the highest power of a polynomial, or that it is 0
 --   Leads, Content             a polynomial is not 0; the greatest common divisor of its coefficients
 --   Shares, Divided            c divides n; a polynomial divided by c
@@ -13,7 +14,7 @@
 use mathlib.Core.Path.{_≡_}
 use mathlib.Core.List.{List, [], _∷_}
 use mathlib.Core.Logic.{_≢_}
-use Prim.Native.Nat.{ℕ, _≤_}
+use Prim.Native.Nat.{ℕ, _*_, _-_, _≤_}
 use lib.IntN.{ℤ, pos, negsuc, _-ℤ_, _*ℤ_}
 use lib.ListN.{length}
 use lib.Signed.{_<ℤ_}
@@ -31,7 +32,7 @@ use Rattle.curve.specs.declared.Highest.the-variants.{Power, Zero}
 use Rattle.curve.specs.declared.Legs.{Legs}
 use Rattle.curve.specs.declared.Square.{Square}
 use Rattle.curve.specs.declared.Preimage.{Preimage}
-use Rattle.curve.specs.Curves.{InRange, legPolynomial}
+use Rattle.curve.specs.Curves.{InRange, differences, legPolynomial}
 use Rattle.curve.specs.Verdicts.{SquareOf}
 
 abbrev pub Coordinates : List ℤ → Type 0
@@ -62,6 +63,12 @@ Draws d ps = Same pairs (polynomial d) (legPolynomial ps)
 
 abbrev pub Slight : List ℤ → Type 0
 Slight p = (k : ℕ) → Within 1280000 (at wholes p k)
+
+abbrev pub NormsSquare : Pair → Pair → Type 0
+NormsSquare a z = (m : ℕ) × (norm a *ℤ norm z ≡ pos (m * m))
+
+abbrev pub EndsSquare : List Pair → Type 0
+EndsSquare ps = NormsSquare (at pairs (differences ps) 0) (at pairs (differences ps) (length ps - 2))
 
 abbrev pub IsHighest : List Pair → Highest → Type 0
 IsHighest D (Power k) = Top pairs D k × (k ≤ 4)

@@ -1,6 +1,7 @@
 // Planar cubics and quintics with whole points, and the verdict on each.
 mod contents;
 mod drawing;
+mod ends;
 mod preimages;
 mod ranges;
 
@@ -11,6 +12,7 @@ use contents::squared_length;
 use drawing::degree;
 pub use drawing::drawn;
 use drawing::to_pairs;
+use ends::ends_are_square;
 use pair::Pair;
 use preimages::generator;
 pub use ranges::in_range;
@@ -106,6 +108,9 @@ pub fn recognise(curve: Curve) -> Verdict
 {
     if !in_range(curve) {
         return Verdict::Refused(Refusal::Range);
+    }
+    if !ends_are_square(curve) {
+        return Verdict::No;
     }
     decide(drawn(curve))
 }

@@ -1,11 +1,19 @@
 -- `curve::recognise` meets its contract.
 use mathlib.Core.Path.{refl}
+use mathlib.Core.List.{List}
 use mathlib.Core.Logic.{inl, inr}
 use native.Mathlib.Omega.{arith}
 use borrow.Author.Needs.{needs}
 use Rattle.whole.proofs.Flags.{told, untold}
-use Rattle.curve.specs.Curves.{pointsOf, legPolynomial}
+use Rattle.pair.specs.declared.Pair.{Pair}
+use Rattle.curve.specs.declared.Verdict.{Verdict}
+use Rattle.curve.specs.declared.Verdict.the-variants as verdict
+use Rattle.curve.specs.Curves.{pointsOf, InRange, legPolynomial}
+use Rattle.curve.specs.Verdicts.{Holds}
+use Rattle.curve.specs.Promise.{Recognised}
 use Rattle.curve.specs.Steps.{polynomial}
+use Rattle.curve.proofs.EndLegs.{ends-not-squared}
+use Rattle.curve.proofs.Lengths.{not-squared-moves}
 use Rattle.curve.proofs.Known.{holds-same, holds-number}
 use Rattle.curve.proofs.LegPolynomial.{pointsOf-length}
 use Rattle.curve.proofs.recognise.Statement.{statement}
@@ -20,23 +28,49 @@ returns c = record {
   verdict = λ e. absurd (omega arith);
 }
 
-drawn-requires : tie.Need-drawn-requires
-drawn-requires c κs = told (c .before .in-range .result) (c .before .in-range .ensures) (c .if1 .left)
+ends-are-square-requires : tie.Need-ends-are-square-requires
+ends-are-square-requires c κs = told (c .before .in-range .result) (c .before .in-range .ensures) (c .if1 .left)
 
-decide-requires : tie.Need-decide-requires
-decide-requires c κs =
-    let curve = c .before .before .before .args .curve in
-    record { points = pointsOf curve; range = drawn-requires (c .before) κs; short = pointsOf-length curve; same = c .drawn .ensures }
+-- ---- in range
+module _ (c : tie.After-ends-are-square) where
+  abbrev ps : List Pair
+  ps = pointsOf (c .before .before .before .args .curve)
+
+  ranged : InRange ps
+  ranged = ends-are-square-requires (c .before) tt
+
+  -- what every verdict gives
+  recognised : (v : Verdict) → Holds (legPolynomial ps) v → Recognised ps v
+  recognised v h = record { refusal = inr (λ out. out ranged, holds-number (legPolynomial ps) v h); verdict = λ z. h }
 
 returns-2 : tie.Need-returns-2
 returns-2 c =
-    let ps = pointsOf (c .before .before .before .before .args .curve) in
-    let h = holds-same (polynomial (c .before .drawn .result)) (legPolynomial ps) (c .before .drawn .ensures) (c .decide .result) (c .decide .ensures) in
-    let e = c .before .before in
-    record {
-      refusal = inr (λ out. out (told (e .before .in-range .result) (e .before .in-range .ensures) (e .if1 .left)), holds-number (legPolynomial ps) (c .decide .result) h);
-      verdict = λ z. h;
-    }
+    let t = c .before in
+    let none = ends-not-squared (ps t) (untold (t .ends-are-square .result) (t .ends-are-square .ensures) (c .if2 .taken)) in
+    recognised t verdict.No (not-squared-moves (legPolynomial (ps t)) none, none)
+
+drawn-requires : tie.Need-drawn-requires
+drawn-requires c κs = ranged (c .before)
+
+decide-requires : tie.Need-decide-requires
+decide-requires c κs =
+    let t = c .before .before in
+    record { points = ps t; range = ranged t; short = pointsOf-length (t .before .before .before .args .curve); same = c .drawn .ensures }
+
+returns-3 : tie.Need-returns-3
+returns-3 c =
+    let t = c .before .before .before in
+    recognised t (c .decide .result)
+    (holds-same (polynomial (c .before .drawn .result)) (legPolynomial (ps t)) (c .before .drawn .ensures) (c .decide .result) (c .decide .ensures))
 
 pub recognise-spec : {M : Type 1} → statement M
-recognise-spec = tie.close (tie.spec in-range-requires returns drawn-requires decide-requires returns-2)
+recognise-spec =
+    tie.close
+    (tie.spec
+    in-range-requires
+    returns
+    ends-are-square-requires
+    returns-2
+    drawn-requires
+    decide-requires
+    returns-3)

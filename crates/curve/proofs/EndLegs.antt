@@ -1,8 +1,9 @@
 -- N at the two ends of a curve: |first leg|² and |last leg|², whatever the number of points. Where their product is no square, N is no c q².
---   ends-square      where N = c q², |first leg|² |last leg|² is the square of c q(0) q(1)
+--   ends-square      where N = c q², |first leg|² |last leg|² is the square of c q(0) q(1),
+--   ends-not-squared so where it is no square, N is no c q²
 use mathlib.Core.Path.{_≡_, sym, ap, ap₂, _∙_, fun-ext}
 use mathlib.Core.List.{List, [], _∷_}
-use Prim.Native.Nat.{ℕ, _*_, _-_}
+use Prim.Native.Nat.{_-_}
 use native.Mathlib.Nat.{add-zero}
 use lib.IntN.{ℤ, pos, natAbs, _*ℤ_}
 use lib.ListN.{length}
@@ -16,7 +17,8 @@ use Rattle.pair.specs.declared.Pair.{Pair}
 use Rattle.pair.specs.Pairs.{pair, pairs, norm}
 use Rattle.pair.proofs.Laws.{square-size}
 use Rattle.curve.specs.Curves.{differences, legPolynomial}
-use Rattle.curve.specs.Verdicts.{Squared}
+use Rattle.curve.specs.Verdicts.{Squared, NotSquared}
+use Rattle.curve.specs.Steps.{EndsSquare}
 use Rattle.curve.proofs.LegPolynomial.{Part, re-part, im-part, legPolynomial-part, legPolynomial-above}
 use Rattle.curve.proofs.Lengths.{pairForm, squared-form}
 
@@ -35,8 +37,8 @@ module _ {part : Pair → ℤ} (P : Part part) (ps : List Pair) where
       ∙ blends-last wholes-ring (length ps - 2) _ 0
       ∙ ap (λ i. part (at pairs (differences ps) i)) (add-zero (length ps - 2))
 
-pub ends-square : (ps : List Pair) (c : ℤ) (q : List ℤ) → pos 0 <ℤ c → Squared (legPolynomial ps) c q
-    → (m : ℕ) × (norm (at pairs (differences ps) 0) *ℤ norm (at pairs (differences ps) (length ps - 2)) ≡ pos (m * m))
+ends-square : (ps : List Pair) (c : ℤ) (q : List ℤ) → pos 0 <ℤ c → Squared (legPolynomial ps) c q
+    → EndsSquare ps
 ends-square ps c q p h = (natAbs (c *ℤ (x *ℤ y)), ap₂ _*ℤ_ first last ∙ squares c x y ∙ square-size (c *ℤ (x *ℤ y)))
   where
     x : ℤ
@@ -56,3 +58,6 @@ ends-square ps c q p h = (natAbs (c *ℤ (x *ℤ y)), ap₂ _*ℤ_ first last �
 
     squares : (c x y : ℤ) → c *ℤ (x *ℤ x) *ℤ (c *ℤ (y *ℤ y)) ≡ c *ℤ (x *ℤ y) *ℤ (c *ℤ (x *ℤ y))
     squares c x y = atomsℤ (c ∷ x ∷ y ∷ []) (λ ρ e. simp (e 0, e 1, e 2, readℤ) (ringℤ ρ _ _ tt))
+
+pub ends-not-squared : (ps : List Pair) → (EndsSquare ps → ⊥) → NotSquared (legPolynomial ps)
+ends-not-squared ps h c q p e = h (ends-square ps c q p e)
