@@ -3,29 +3,33 @@
 --   Reduced, reduced       D = κ w², not 0: it is so with a primitive w
 --   generated-norm         D = κ w², not 0: the norm of D's greatest common divisor is that of N
 --   norm-differs-not-generated      so where they differ, D is no κ w²
-use mathlib.Core.Path.{_≡_, sym, ap, _∙_}
+--   content-one            where N has the content 1, D's pairs have no common divisor but units
+use mathlib.Core.Path.{_≡_, refl, sym, ap, _∙_}
 use mathlib.Core.List.{List}
 use mathlib.Core.Logic.{_≢_}
-use lib.IntN.{_*ℤ_}
-use Rattle.whole.specs.Poly.{Greatest, square}
+use lib.IntN.{pos, _*ℤ_}
+use Rattle.whole.specs.Poly.{at, Greatest, scaled, square}
 use Rattle.whole.specs.Number.{wholes}
 use Rattle.whole.proofs.Integers.{*ℤ-1}
 use Rattle.whole.proofs.Linear.{linear}
+use Rattle.whole.proofs.Order.{nonneg-is}
 use Rattle.whole.proofs.Wholes.{wholes-ring}
-use Rattle.poly.specs.Terms.{Primitive}
+use Rattle.poly.specs.Terms.{Throughout, Primitive}
+use Rattle.poly.proofs.Lists.{at-scaled}
+use Rattle.poly.proofs.Divisibility.{unit-of-one}
 use Rattle.poly.proofs.Gauss.{primitive-product}
 use Rattle.poly.proofs.Content.{quotients, greatest-some, primitive-greatest}
 use Rattle.poly.proofs.Squares.{square-quotient, square-multiple}
-use Rattle.poly.proofs.Wholes.{wholes-domain, wholes-bezout, content-once}
+use Rattle.poly.proofs.Wholes.{wholes-domain, wholes-bezout, whole-unit, content-once}
 use Rattle.pair.specs.declared.Pair.{Pair}
-use Rattle.pair.specs.Pairs.{pairs, times, norm}
+use Rattle.pair.specs.Pairs.{pairs, times, norm, one}
 use Rattle.pair.proofs.Laws.{pairs-ring, pairs-domain, norm-times, norm-zero, norm-nonneg}
 use Rattle.pair.proofs.Euclid.{pairs-bezout}
-use Rattle.pair.proofs.Units.{unit-norm}
+use Rattle.pair.proofs.Units.{unit-norm, norm-unit}
 use Rattle.curve.specs.declared.Square.{Square}
 use Rattle.curve.specs.Curves.{squaredLength}
 use Rattle.curve.specs.Verdicts.{Still, Generated, NotGenerated, SquareOf}
-use Rattle.curve.proofs.Lengths.{generated-squared}
+use Rattle.curve.proofs.Lengths.{squaredLength-same, squaredLength-scaled, generated-squared}
 use Rattle.curve.proofs.Conjugates.{squaredLength-primitive}
 
 pub generated-content : (D : List Pair) (κ : Pair) (w : List Pair) → κ ≢ pairs .none → Primitive pairs w → Generated D κ w
@@ -69,3 +73,17 @@ generated-norm D s g κ w h i n e =
 
 pub norm-differs-not-generated : (D : List Pair) (s : Square) (g : Pair) → SquareOf D s → Greatest pairs D g → (Still D → ⊥) → norm g ≢ s .c → NotGenerated D
 norm-differs-not-generated D s g h i n d κ w e = d (generated-norm D s g κ w h i n e)
+
+pub content-one : (D : List Pair) → Greatest wholes (squaredLength D) (pos 1) → Greatest pairs D one
+content-one D h = record { divides = λ k. norm-unit one refl (at pairs D k); greatest = λ d u. norm-unit d (unit d u) one }
+  where
+    -- D = d E gives N = |d|² |E|²
+    divides : (d : Pair) → Throughout pairs d (at pairs D) → Throughout wholes (norm d) (at wholes (squaredLength D))
+    divides d u k =
+        let (E, e) = quotients pairs-ring d D u in record {
+          factor = at wholes (squaredLength E) k;
+          is = sym (at-scaled wholes-ring (norm d) (squaredLength E) k) ∙ sym (squaredLength-scaled d E k) ∙ squaredLength-same (scaled pairs d E) D e k;
+        }
+
+    unit : (d : Pair) → Throughout pairs d (at pairs D) → norm d ≡ pos 1
+    unit d u = nonneg-is (norm-nonneg d) ∙ ap pos (whole-unit (unit-of-one wholes-ring (h .greatest (norm d) (divides d u))))

@@ -15,10 +15,11 @@ use root::pairs::Quadratic;
 use root::pairs::pair_root;
 ghost use mathlib.Core.Path.{_≡_};
 ghost use mathlib.Core.Logic.{_≢_};
-ghost use Rattle.whole.specs.Number.{FirstPositive, Tells};
+ghost use Rattle.whole.specs.Number.{wholes, FirstPositive, Tells};
 ghost use Rattle.whole.specs.Poly.{Same, Greatest, scaled};
-ghost use Rattle.pair.specs.Pairs.{pairs, times, imaginary, PartsWithin, AllWithin};
+ghost use Rattle.pair.specs.Pairs.{pairs, times, one, imaginary, PartsWithin, AllWithin};
 ghost use Rattle.root.specs.Pairs.{five, quadratic, LeadKept};
+ghost use Rattle.curve.specs.Curves.{squaredLength};
 ghost use Rattle.curve.specs.Verdicts.{Holds};
 ghost use Rattle.curve.specs.Steps.{Squarely, PairShares, PairsDivided, TurnedRoot, Normalised};
 
@@ -33,11 +34,29 @@ fn pair_share(a: Pair, g: Pair) -> Pair
     }
 }
 
+// Whether a pair is 1.
+fn is_one(g: Pair) -> bool
+    ensures { λ r. ⌜ Tells (g ≡ one) r ⌝ }
+{
+    let x = g.re;
+    let y = g.im;
+    if x != 1 {
+        return false;
+    }
+    if y != 0 {
+        return false;
+    }
+    true
+}
+
 // A polynomial divided by the greatest common divisor of its pairs.
 fn pairs_divided(e: Five, g: Pair) -> Five
     requires { ⌜ AllWithin 1280000 (five e) × Greatest pairs (five e) g × (g ≢ pairs .none) ⌝ }
     ensures { λ r. ⌜ PairsDivided (five e) g (five r) ⌝ }
 {
+    if is_one(g) {
+        return e;
+    }
     let a0 = e.e0;
     let a1 = e.e1;
     let a2 = e.e2;
@@ -165,18 +184,30 @@ fn rooted(e: Five, l: u64, s: Square, g: Pair) -> Verdict
     Verdict::Pre(normalised(g, w, s))
 }
 
-// The verdict on a D whose N is a square: whether D has a pre-image too.
-pub(crate) fn generator(e: Five, l: u64, s: Square) -> Verdict
-    requires { ⌜ Squarely (five e) l s ⌝ }
-    ensures { λ v. ⌜ Holds (five e) v ⌝ }
+// The greatest common divisor of D's pairs. Its norm divides the content c of N.
+fn common(e: Five, s: Square) -> Pair
+    requires { ⌜ AllWithin 1280000 (five e) × Greatest wholes (squaredLength (five e)) (s .c) ⌝ }
+    ensures { λ g. ⌜ Greatest pairs (five e) g ⌝ }
 {
+    let c = s.c;
+    if c == 1 {
+        return Pair { re: 1, im: 0 };
+    }
     let e0 = e.e0;
     let e1 = e.e1;
     let e2 = e.e2;
     let e3 = e.e3;
     let e4 = e.e4;
+    pair::gcd_all([e0, e1, e2, e3, e4])
+}
+
+// The verdict on a D whose N is a square: whether D has a pre-image too.
+pub(crate) fn generator(e: Five, l: u64, s: Square) -> Verdict
+    requires { ⌜ Squarely (five e) l s ⌝ }
+    ensures { λ v. ⌜ Holds (five e) v ⌝ }
+{
     let c = s.c;
-    let g = pair::gcd_all([e0, e1, e2, e3, e4]);
+    let g = common(e, s);
     if norm(g) != c {
         return Verdict::Ph(s);
     }

@@ -28,26 +28,27 @@ module _ (s : tie.Start) where
   small : {g : Pair} → Greatest pairs D g → PartsWithin (2 ^ 30) g
   small h = wider (lit≤ tt) (greatest-within (pairs-slight D (s .pre .of-curve)) h)
 
-gcd-all-requires : tie.Need-gcd-all-requires
-gcd-all-requires c κs = let s = c .before .before .before .before .before .before in λ k. wider (lit≤ tt) (pairs-slight (D s) (s .pre .of-curve) k)
+common-requires : tie.Need-common-requires
+common-requires c κs = let s = c .before in (pairs-slight (D s) (s .pre .of-curve), s .pre .square-of .content)
 
 norm-requires : tie.Need-norm-requires
-norm-requires c κs = small (c .before .before .before .before .before .before .before) (c .gcd-all .ensures)
+norm-requires c κs = small (c .before .before) (c .common .ensures)
 
 returns : tie.Need-returns
 returns c =
-    let s = c .before .before .before .before .before .before .before .before .before in (
+    let t = c .before .before in
+    let s = t .before .before in (
       moves s,
       s .pre .square-of,
-      norm-differs-not-generated (D s) (s .args .s) (c .before .before .gcd-all .result) (s .pre .square-of) (c .before .before .gcd-all .ensures) (moves s)
+      norm-differs-not-generated (D s) (s .args .s) (t .common .result) (s .pre .square-of) (t .common .ensures) (moves s)
           (λ e. c .if1 .taken (ap (ofZ w64) (c .before .norm .ensures ∙ e))),
     )
 
 rooted-requires : tie.Need-rooted-requires
 rooted-requires c κs =
-    let s = c .before .before .before .before .before .before .before .before .before in
-    let h = c .before .before .gcd-all .ensures in
-    (s .pre, h, λ z. moves s (greatest-zero h .0 z))
+    let t = c .before .before in
+    let s = t .before .before in
+    (s .pre, t .common .ensures, λ z. moves s (greatest-zero (t .common .ensures) .0 z))
 
 returns-2 : tie.Need-returns-2
 returns-2 c = c .rooted .ensures
@@ -56,7 +57,7 @@ pub generator-spec : {M : Type 1} → statement M
 generator-spec =
     tie.close
     (tie.spec
-    gcd-all-requires
+    common-requires
     norm-requires
     returns
     rooted-requires
