@@ -1,17 +1,26 @@
 -- Roots of natural numbers: Newton's step from above, and that each root has one answer.
---   newton-above        from r at or above the root of n, the mean of r and n / r is so too
+--   root-positive       what is at or above the root of a number other than 0 is positive
+--   newton-above        the mean of r and n / r is at or above the root of n, for any r
+--   square-digit        the last six binary digits of a square are among those that a number of 64 digits marks
 --   floor-root-once     the floor of a root is one number
 --   floor-root-is       and of k² it is k
 --   root-once           a square root has one answer
-use mathlib.Core.Path.{_≡_, refl, ap}
-use Prim.Native.Nat.{ℕ, suc, _+_, _-_, _*_, _/_, _≤_, _<_}
-use native.Mathlib.Nat.{mul-le-mul, add-sub-of-le, lt-mul-div-succ}
+use mathlib.Core.Path.{_≡_, refl, sym, ap, _∙_, subst}
+use mathlib.Core.Bool.{Bool, true, _&&_, and-eq-true-iff}
+use mathlib.Core.Logic.{_≢_}
+use Prim.Native.Nat.{ℕ, zero, suc, _+_, _-_, _*_, _/_, _%_, _^_, _≤_, _<_}
+use native.Mathlib.Nat.{mul-le-mul, add-sub-of-le, lt-mul-div-succ, mod-lt, div-add-mod', add-mul-mod-self-left}
 use native.Mathlib.Numerals.{add-one}
-use native.Mathlib.Decide.{decLt}
+use native.Mathlib.Decide.{decLe, decLt}
+use lib.Dec.{eqb, lit<}
 use native.Mathlib.Omega.{arith}
 use Rattle.whole.specs.Roots.{FloorRoot, IsRoot}
 use Rattle.whole.specs.declared.Root.{Root}
 use Rattle.whole.specs.declared.Root.the-variants.{Square, NotSquare}
+
+pub root-positive : (n r : ℕ) → n ≢ 0 → n < (r + 1) * (r + 1) → 0 < r
+root-positive n zero h l = absurd (h (omega arith))
+root-positive n (suc r) h l = omega arith
 
 -- 4 r s ≤ (r + s)², where r is s + d: the difference is d²
 mean : (s d : ℕ) → 4 * ((s + d) * s) ≤ (s + d + s) * (s + d + s)
@@ -24,8 +33,45 @@ below-mean n r s m h l k =
     let a : 4 * (r * s) ≤ (r + s) * (r + s) = rw e at (mean s (r - s)) in
     omega (arith, mul-le-mul k k)
 
-pub newton-above : (n r : ℕ) → 0 < r → n / r < r → n < ((r + n / r) / 2 + 1) * ((r + n / r) / 2 + 1)
-newton-above n r p h = rw (add-one ((r + n / r) / 2)) (below-mean n r (n / r + 1) ((r + n / r) / 2) (lt-mul-div-succ n p) (omega arith) (omega arith))
+pub newton-above : (n r : ℕ) → 0 < r → n < ((r + n / r) / 2 + 1) * ((r + n / r) / 2 + 1)
+newton-above n r p = rw (add-one ((r + n / r) / 2)) (by (decLe (n / r + 1) r))
+  where
+    above : n < r * (n / r + 1)
+    above = lt-mul-div-succ n p
+
+    by : Dec (n / r + 1 ≤ r) → n < suc ((r + n / r) / 2) * suc ((r + n / r) / 2)
+    by (yes l) = below-mean n r (n / r + 1) ((r + n / r) / 2) above l (omega arith)
+    by (no l) = below-mean n (n / r + 1) r ((r + n / r) / 2) (omega (arith, above)) (omega arith) (omega arith)
+
+-- ---- the remainders of squares by 64
+abbrev pub marked : ℕ → Bool
+marked i = eqb (144680414395695635 / 2 ^ i % 2) 1
+
+first-marked : ℕ → Bool
+first-marked zero = true
+first-marked (suc i) = marked (i * i % 64) && first-marked i
+
+next-marked : (n i : ℕ) → marked (n * n % 64) ≡ true → (i < n → marked (i * i % 64) ≡ true) → i < suc n → marked (i * i % 64) ≡ true
+next-marked n i h f l = by (decLt i n)
+  where
+    by : Dec (i < n) → marked (i * i % 64) ≡ true
+    by (yes k) = f k
+    by (no k) = let e : n ≡ i = omega arith in subst (λ j. marked (j * j % 64) ≡ true) e h
+
+among-first : (n i : ℕ) → first-marked n ≡ true → i < n → marked (i * i % 64) ≡ true
+unfolding first-marked
+among-first zero i h l = absurd (omega arith)
+among-first (suc n) i h l = let (m, f) = and-eq-true-iff (marked (n * n % 64)) (first-marked n) .0 h in next-marked n i m (among-first n i f) l
+
+pub square-digit : (k : ℕ) → marked (k * k % 64) ≡ true
+unfolding first-marked
+square-digit k = subst (λ j. marked j ≡ true) (sym rest) (among-first 64 (k % 64) refl (mod-lt k (lit< tt)))
+  where
+    multiplied : (q i : ℕ) → (q * 64 + i) * (q * 64 + i) ≡ i * i + 64 * (q * (q * 64 + 2 * i))
+    multiplied q i = omega arith
+
+    rest : k * k % 64 ≡ k % 64 * (k % 64) % 64
+    rest = ap (λ j. j * j % 64) (sym (div-add-mod' k 64)) ∙ ap (λ j. j % 64) (multiplied (k / 64) (k % 64)) ∙ add-mul-mod-self-left (k % 64 * (k % 64)) 64 _
 
 -- a number whose square is at most n is no greater than the floor
 floor-root-le : {n r s : ℕ} → FloorRoot n r → FloorRoot n s → s ≤ r

@@ -1,13 +1,14 @@
 // Whole numbers: exact and nearest quotients, square roots, common divisors, and the clearing of a lent area.
 ghost use mathlib.Core.Path.{_≡_};
 ghost use mathlib.Core.List.{_∷_, []};
+ghost use mathlib.Core.Logic.{_≢_};
 ghost use lib.IntN.{pos, natAbs};
 ghost use lib.Signed.{_<ℤ_};
 ghost use Rattle.whole.specs.Area.{Cleared};
 ghost use Rattle.whole.specs.Number.{wholes};
 ghost use Rattle.whole.specs.Poly.{Greatest};
 ghost use Rattle.whole.specs.Quotients.{Divisible, IsQuotient, Nearest};
-ghost use Rattle.whole.specs.Roots.{Above, FloorRoot, IsRoot};
+ghost use Rattle.whole.specs.Roots.{Above, Passes, FloorRoot, IsRoot};
 
 // A quotient that has to be whole.
 pub enum Exact {
@@ -47,11 +48,13 @@ pub fn nearest(n: i64, d: i64) -> i64
     }
 }
 
-// A power of two whose square is above n, and no larger than that asks.
+// The mean of a power of two near the root of n and of n over it: a step of Newton's without a division.
 fn guess(n: u64) -> u64
+    requires { ⌜ n ≢ 0 ⌝ }
     ensures { λ r. ⌜ Above n r ⌝ }
 {
-    1u64 << ((65 - u64::leading_zeros(n)) / 2)
+    let k = (64 - u64::leading_zeros(n)) / 2;
+    ((1u64 << k) + (n >> k)) / 2
 }
 
 // The floor of the root by Newton's steps, each from above.
@@ -70,10 +73,20 @@ fn floor_root(n: u64) -> u64
     r
 }
 
-// The root of a square.
+// Whether the last six binary digits of n are those of a square: the digits of the number stand for the remainders by 64.
+fn ends_as_a_square(n: u64) -> bool
+    ensures { λ r. ⌜ Passes n r ⌝ }
+{
+    (144680414395695635u64 >> (n % 64)) % 2 == 1
+}
+
+// The root of a square. Most numbers that are none are refused by their last digits.
 pub fn square_root(n: u64) -> Root
     ensures { λ r. ⌜ IsRoot n r ⌝ }
 {
+    if !ends_as_a_square(n) {
+        return Root::NotSquare;
+    }
     let r = floor_root(n);
     if r * r == n {
         Root::Square(r)

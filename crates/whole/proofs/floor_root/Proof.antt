@@ -1,12 +1,11 @@
 -- `whole::floor_root` meets its contract. The invariant: r is at or above the root, and q is n / r.
 use mathlib.Core.Path.{_≡_, refl}
 use mathlib.Core.Logic.{_≢_}
-use Prim.Native.Nat.{ℕ, zero, suc, _+_, _*_, _/_, _<_}
+use Prim.Native.Nat.{ℕ, _+_, _*_, _/_, _<_}
 use native.Mathlib.Nat.{le-div-iff-mul-le}
 use native.Mathlib.Omega.{arith}
-use borrow.Author.Needs.{needs}
 use Rattle.whole.specs.Roots.{Above}
-use Rattle.whole.proofs.Squares.{newton-above}
+use Rattle.whole.proofs.Squares.{root-positive, newton-above}
 use Rattle.whole.proofs.floor_root.Statement.{statement}
 use Rattle.whole.proofs.floor_root.Tie as tie
 
@@ -16,21 +15,17 @@ Inv-loop n r₀ q₀ r q = Above n r × (q ≡ n / r)
 abbrev μ-loop : tie.MeasureT-loop
 μ-loop n r₀ q₀ r q = r
 
-root-positive : (n r : ℕ) → n ≢ 0 → n < (r + 1) * (r + 1) → 0 < r
-root-positive n zero h l = absurd (h (omega arith))
-root-positive n (suc r) h l = omega arith
-
 -- one step of Newton's
 step : (n r q : ℕ) → n ≢ 0 → Above n r → q ≡ n / r → q < r → Above n ((r + q) / 2)
 step n r q h inv e l =
-    let a : n < ((r + q) / 2 + 1) * ((r + q) / 2 + 1) = rw e (newton-above n r (inv .positive) (rw e at l)) in
+    let a : n < ((r + q) / 2 + 1) * ((r + q) / 2 + 1) = rw e (newton-above n r (inv .positive)) in
     record { positive = root-positive n ((r + q) / 2) h a; above = a; small = omega (arith, inv .small) }
 
 returns : tie.Need-returns Inv-loop μ-loop
 returns c = record { low = omega arith; high = omega (arith, c .if1 .taken) }
 
 guess-requires : tie.Need-guess-requires Inv-loop μ-loop
-guess-requires c κs = search needs
+guess-requires c κs = c .if1 .left
 
 div-q : tie.Need-div-q Inv-loop μ-loop
 div-q c = c .guess .ensures .positive
