@@ -171,11 +171,14 @@ fn rest(a: Pair, b: Pair) -> Pair
     difference(a, product(nearest(a, b), b))
 }
 
-// The greatest common divisor of two pairs, by Euclid's loop.
+// The greatest common divisor of two pairs, by Euclid's loop. A zero in a list takes no step.
 pub fn gcd(a: Pair, b: Pair) -> Pair
     requires { ⌜ PartsWithin (2 ^ 30) a × PartsWithin (2 ^ 30) b ⌝ }
     ensures { λ g. ⌜ Greatest pairs (a ∷ b ∷ []) g ⌝ }
 {
+    if is_zero(a) {
+        return b;
+    }
     let mut x = a;
     let mut y = b;
     while norm(y) != 0 {

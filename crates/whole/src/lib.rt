@@ -106,10 +106,13 @@ pub fn size(x: i64) -> u64
     }
 }
 
-// Euclid's loop.
+// Euclid's loop. A zero in a list takes no step.
 fn common(a: u64, b: u64) -> u64
     ensures { λ g. ⌜ Greatest wholes (pos a ∷ pos b ∷ []) (pos g) ⌝ }
 {
+    if a == 0 {
+        return b;
+    }
     let mut x = a;
     let mut y = b;
     while y != 0 {

@@ -8,6 +8,7 @@ use mir.Facts.{sfits-lit}
 use mir.Syntax.{w64}
 use mir.Val.{ofZ}
 use Rattle.whole.specs.Poly.{Divides}
+use Rattle.whole.specs.Number.{Tells}
 use Rattle.whole.proofs.Divisor.{divides-none, common-two, greatest-is, division-common}
 use Rattle.whole.proofs.Machine.{same-bits}
 use Rattle.pair.specs.declared.Pair.{Pair}
@@ -26,14 +27,27 @@ Inv-loop a b x y = PartsWithin (2 ^ 30) x × PartsWithin (2 ^ 30) y × ((d : Pai
 abbrev μ-loop : tie.MeasureT-loop
 μ-loop a b x y = natAbs (norm y)
 
+-- d divides x just where it divides x and 0
+with-zero : (d x y : Pair) → y ≡ pairs .none → Divides pairs d x ↔ Both d x y
+with-zero d x y e = (λ h. (h, subst (Divides pairs d) (sym e) (divides-none pairs-ring d)), λ h. h .0)
+
+is-zero-requires : tie.Need-is-zero-requires Inv-loop μ-loop
+is-zero-requires c κs = search needs
+
+returns : tie.Need-returns Inv-loop μ-loop
+returns c =
+    let s = c .before .before .args in
+    let z = subst (Tells (s .a ≡ pairs .none)) (c .if1 .taken) (c .before .is-zero .ensures) in
+    greatest-is pairs-ring (λ d. Iff·trans (with-zero d (s .b) (s .a) z) (Iff·trans (λ h. (h .1, h .0), λ h. (h .1, h .0)) (Iff·symm (common-two pairs-ring d (s .a) (s .b)))))
+
 loop-holds : tie.Need-loop-holds Inv-loop μ-loop
 loop-holds c = (search needs, search needs, λ d. Iff·rfl)
 
 norm-requires : tie.Need-norm-requires Inv-loop μ-loop
 norm-requires c κs = c .loop .inv .1
 
-some : (c : tie.Then1 Inv-loop μ-loop) → c .before .before .loop .y ≢ pairs .none
-some c e = c .if1 .taken (ap (ofZ w64) (c .before .norm .ensures ∙ ap norm e))
+some : (c : tie.Then2 Inv-loop μ-loop) → c .before .before .loop .y ≢ pairs .none
+some c e = c .if2 .taken (ap (ofZ w64) (c .before .norm .ensures ∙ ap norm e))
 
 rest-requires : tie.Need-rest-requires Inv-loop μ-loop
 rest-requires c κs = let l = c .before .before .loop in (l .inv .0, l .inv .1, some c)
@@ -46,18 +60,24 @@ loop-again c =
     let i = c .before .before .before .loop .inv in
     (i .1, rest-within (i .1) (some (c .before)) (c .rest .ensures), λ d. Iff·trans (division-common pairs-ring {q = c .rest .ensures .quotient} (rest-sum (c .rest .ensures)) d) (i .2 d))
 
--- d divides x just where it divides x and 0
-with-zero : (d x y : Pair) → y ≡ pairs .none → Divides pairs d x ↔ Both d x y
-with-zero d x y e = (λ h. (h, subst (Divides pairs d) (sym e) (divides-none pairs-ring d)), λ h. h .0)
-
-returns : tie.Need-returns Inv-loop μ-loop
-returns c =
+returns-2 : tie.Need-returns-2 Inv-loop μ-loop
+returns-2 c =
     let l = c .before .before .loop in
-    let s = c .before .before .before .args in
-    let z : l .y ≡ pairs .none = norm-zero (l .y) (sym (c .before .norm .ensures) ∙ same-bits (record { sfits = c .before .norm .ok }) (sfits-lit tt) (c .if1 .left)) in
+    let s = c .before .before .before .before .before .args in
+    let z : l .y ≡ pairs .none = norm-zero (l .y) (sym (c .before .norm .ensures) ∙ same-bits (record { sfits = c .before .norm .ok }) (sfits-lit tt) (c .if2 .left)) in
     greatest-is pairs-ring (λ d. Iff·trans (with-zero d (l .x) (l .y) z) (Iff·trans (l .inv .2 d) (Iff·symm (common-two pairs-ring d (s .a) (s .b)))))
 
 pub gcd-spec : {M : Type 1} → statement M
 gcd-spec =
     tie.close
-    (tie.spec Inv-loop μ-loop loop-holds norm-requires rest-requires loop-less loop-again returns)
+    (tie.spec
+    Inv-loop
+    μ-loop
+    is-zero-requires
+    returns
+    loop-holds
+    norm-requires
+    rest-requires
+    loop-less
+    loop-again
+    returns-2)
