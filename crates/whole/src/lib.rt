@@ -41,11 +41,14 @@ pub fn nearest(n: i64, d: i64) -> i64
 {
     let q = n / d;
     let r = n % d;
-    if 0 < r {
-        if d - r < r { q + 1 } else { q }
-    } else {
-        if d + r <= 0 - r { q - 1 } else { q }
+    let half = d / 2;
+    if half < r {
+        return q + 1;
     }
+    if r <= half - d {
+        return q - 1;
+    }
+    q
 }
 
 // The mean of a power of two near the root of n and of n over it: a step of Newton's without a division.

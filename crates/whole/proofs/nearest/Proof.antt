@@ -1,10 +1,11 @@
--- `whole::nearest` meets its contract. With n = q d + r and |r| < d, what is left over is r, r − d or r + d.
-use mathlib.Core.Path.{_≡_, sym, ap, _∙_}
+-- `whole::nearest` meets its contract. With n = q d + r and |r| < d, what is left over is r, r − d or r + d; 2 h is d or d − 1.
+use mathlib.Core.Path.{_≡_, refl, sym, ap, _∙_}
 use mathlib.Core.List.{[], _∷_}
 use mathlib.Core.Logic.{_≢_}
 use Prim.Native.Nat.{_*_, _/_, _≤_, _^_}
 use native.Mathlib.Nat.{le-refl, le-trans, mul-le-mul, div-mul-le-self}
-use lib.IntN.{ℤ, pos, negℤ, natAbs, _+ℤ_, _-ℤ_, _*ℤ_}
+use lib.Dec.{lit<}
+use lib.IntN.{ℤ, pos, negsuc, negℤ, natAbs, _+ℤ_, _-ℤ_, _*ℤ_}
 use lib.Signed.{quotZ, remZ, _≤ℤ_, _<ℤ_}
 use mir.Syntax.{w64}
 use mir.Val.{SFits}
@@ -30,6 +31,10 @@ raise q d r = atomsℤ (q ∷ d ∷ r ∷ []) (λ ρ e. simp (e 0, e 1, e 2, rea
 
 lower : (q d r : ℤ) → (q *ℤ d +ℤ r) -ℤ (q -ℤ pos 1) *ℤ d ≡ d +ℤ r
 lower q d r = atomsℤ (q ∷ d ∷ r ∷ []) (λ ρ e. simp (e 0, e 1, e 2, readℤ, read-negsuc ρ) (ringℤ ρ _ _ tt))
+
+half : (d : ℤ) → pos 0 <ℤ d → quotZ d (pos 2) ≡ pos (natAbs d / 2)
+half (pos m) p = refl
+half (negsuc m) p = absurd (omega linear)
 
 module _ (s : tie.Start) where
   abbrev n : ℤ
@@ -67,119 +72,93 @@ module _ (s : tie.Start) where
   left : (p rest : ℤ) → (q *ℤ d +ℤ r) -ℤ p *ℤ d ≡ rest → n -ℤ p *ℤ d ≡ rest
   left p rest e = ap (λ x. x -ℤ p *ℤ d) (sym (quotient-rest n d)) ∙ e
 
+  abbrev h : ℤ
+  h = quotZ d (pos 2)
+
+  h-is : h ≡ pos (natAbs d / 2)
+  h-is = half d (s .pre)
+
+  h-fits : SFits w64 h
+  h-fits = quotient-fits d (pos 2) (s .fits .d) (record { nonzero = λ e. omega linear; not-least = λ e f. omega linear })
+
+  gap-fits : SFits w64 (h -ℤ d)
+  gap-fits = let p = s .pre in omega (linear, s .fits .d, h-is, abs-parts d, one-part d, minus-parts h d, one-part (h -ℤ d))
+
 div-q : tie.Need-div-q
 div-q c = simp (toZ-ofZ, c .fits .n, c .fits .d) (nonzero-bits (c .fits .d) (nonzero c), q-fits c)
 
 rem-r : tie.Need-rem-r
 rem-r c = div-q c
 
--- the first test
-over : (c : tie.Then1) → pos 0 <ℤ r (c .before)
-over c = let s = c .before in let h = simp (toZ-ofZ, s .fits .n, s .fits .d, r-fits s) at (c .if1 .taken) in omega linear
-
-under : (c : tie.Else1) → r (c .before) ≤ℤ pos 0
-under c = let s = c .before in let h = simp (toZ-ofZ, s .fits .n, s .fits .d, r-fits s) at (c .if1 .left) in omega linear
-
--- what the second tests compare
-gap-fits : (c : tie.Then1) → SFits w64 (d (c .before) -ℤ r (c .before))
-gap-fits c = let s = c .before in let h = over c in let b = below s in omega (linear, s .fits .d, minus-parts (d s) (r s), one-part (d s), one-part (d s -ℤ r s))
-
-sum-fits : (c : tie.Else1) → SFits w64 (d (c .before) +ℤ r (c .before))
-sum-fits c =
-    let s = c .before in
-    let h = under c in
-    let b = below s in
-    omega (linear, s .fits .d, plus-parts (d s) (r s), negative-parts (d s), one-part (d s), one-part (r s), one-part (d s +ℤ r s))
-
-flip-fits : (c : tie.Else1) → SFits w64 (pos 0 -ℤ r (c .before))
-flip-fits c =
-    let s = c .before in
-    let h = under c in
-    let b = below s in
-    omega (linear, s .fits .d, minus-parts (pos 0) (r s), negative-parts (d s), one-part (d s), one-part (r s), one-part (pos 0 -ℤ r s))
-
-sub-if2 : tie.Need-sub-if2
-sub-if2 c = let s = c .before in simp (toZ-ofZ, s .fits .n, s .fits .d, r-fits s) (gap-fits c)
-
-add-if3 : tie.Need-add-if3
-add-if3 c = let s = c .before in simp (toZ-ofZ, s .fits .n, s .fits .d, r-fits s) (sum-fits c)
-
-sub-if3 : tie.Need-sub-if3
-sub-if3 c = let s = c .before in simp (toZ-ofZ, s .fits .n, s .fits .d, r-fits s) (flip-fits c)
+div-half : tie.Need-div-half
+div-half c = simp (toZ-ofZ, c .fits .d) (lit< tt, h-fits c)
 
 -- the quotient moves only where 2 r passes d or −d
-past : (c : tie.Then2) → (d (c .before .before) -ℤ r (c .before .before)) <ℤ r (c .before .before)
-past c =
-    let s = c .before .before in
-    let h = simp (toZ-ofZ, s .fits .n, s .fits .d, r-fits s, gap-fits (c .before)) at (c .if2 .taken) in omega linear
+past : (c : tie.Then1) → h (c .before) <ℤ r (c .before)
+past c = let s = c .before in let k = simp (toZ-ofZ, s .fits .n, s .fits .d, r-fits s, h-fits s) at (c .if1 .taken) in omega linear
 
-short : (c : tie.Then3) → (d (c .before .before) +ℤ r (c .before .before)) ≤ℤ (pos 0 -ℤ r (c .before .before))
-short c =
-    let s = c .before .before in
-    let h = simp (toZ-ofZ, s .fits .n, s .fits .d, r-fits s, sum-fits (c .before), flip-fits (c .before)) at (c .if3 .taken) in omega linear
+not-past : (c : tie.Else1) → r (c .before) ≤ℤ h (c .before)
+not-past c = let s = c .before in let k = simp (toZ-ofZ, s .fits .n, s .fits .d, r-fits s, h-fits s) at (c .if1 .left) in omega linear
 
-raised-fits : (c : tie.Then2) → SFits w64 (q (c .before .before) +ℤ pos 1)
+sub-if2 : tie.Need-sub-if2
+sub-if2 c = let s = c .before in simp (toZ-ofZ, s .fits .d, h-fits s) (gap-fits s)
+
+short : (c : tie.Then2) → r (c .before .before) ≤ℤ (h (c .before .before) -ℤ d (c .before .before))
+short c = let s = c .before .before in let k = simp (toZ-ofZ, s .fits .n, s .fits .d, r-fits s, h-fits s, gap-fits s) at (c .if2 .taken) in omega linear
+
+raised-fits : (c : tie.Then1) → SFits w64 (q (c .before) +ℤ pos 1)
 raised-fits c =
-    let s = c .before .before in
-    let h = over (c .before) in
-    let m = q-small s (λ e. omega linear) in
+    let s = c .before in
+    let k = past c in
+    let m = q-small s (λ e. omega (linear, h-is s)) in
     omega (linear, plus-parts (q s) (pos 1), abs-parts (q s), one-part (q s +ℤ pos 1))
 
-lowered-fits : (c : tie.Then3) → SFits w64 (q (c .before .before) -ℤ pos 1)
+lowered-fits : (c : tie.Then2) → SFits w64 (q (c .before .before) -ℤ pos 1)
 lowered-fits c =
     let s = c .before .before in
-    let h = short c in
+    let k = short c in
     let p = s .pre in
-    let m = q-small s (λ e. omega (linear, plus-parts (d s) (r s), minus-parts (pos 0) (r s))) in
+    let m = q-small s (λ e. omega (linear, h-is s, abs-parts (d s), one-part (d s), minus-parts (h s) (d s))) in
     omega (linear, minus-parts (q s) (pos 1), abs-parts (q s), one-part (q s -ℤ pos 1))
 
 add-result : tie.Need-add-result
-add-result c = let s = c .before .before in simp (toZ-ofZ, s .fits .n, s .fits .d, q-fits s) (raised-fits c)
+add-result c = let s = c .before in simp (toZ-ofZ, s .fits .n, s .fits .d, q-fits s) (raised-fits c)
 
 sub-result : tie.Need-sub-result
 sub-result c = let s = c .before .before in simp (toZ-ofZ, s .fits .n, s .fits .d, q-fits s) (lowered-fits c)
 
 returns : tie.Need-returns
 returns c =
-    let s = c .before .before in
-    let h = past c in
+    let s = c .before in
+    let k = past c in
+    let p = s .pre in
     let b = below s in
     simp (toZ-ofZ, s .fits .n, s .fits .d, q-fits s, raised-fits c)
     (nearest-by (left s (q s +ℤ pos 1) (r s -ℤ d s) (raise (q s) (d s) (r s)))
-    (omega (linear, minus-parts (d s) (r s), minus-parts (r s) (d s), negative-parts (d s), times-parts (pos 2) (r s -ℤ d s)))
-    (let p = s .pre in omega (linear, minus-parts (r s) (d s), times-parts (pos 2) (r s -ℤ d s))))
+    (omega (linear, h-is s, abs-parts (d s), one-part (d s), minus-parts (r s) (d s), negative-parts (d s), times-parts (pos 2) (r s -ℤ d s)))
+    (omega (linear, minus-parts (r s) (d s), times-parts (pos 2) (r s -ℤ d s))))
 
 returns-2 : tie.Need-returns-2
 returns-2 c =
     let s = c .before .before in
-    let o = over (c .before) in
+    let k = short c in
     let p = s .pre in
-    let h = simp (toZ-ofZ, s .fits .n, s .fits .d, r-fits s, gap-fits (c .before)) at (c .if2 .left) in
-    simp (toZ-ofZ, s .fits .n, s .fits .d, q-fits s)
-    (nearest-by (left s (q s) (r s) (keep (q s) (d s) (r s)))
-    (omega (linear, negative-parts (d s), times-parts (pos 2) (r s)))
-    (omega (linear, minus-parts (d s) (r s), times-parts (pos 2) (r s))))
+    let b = below s in
+    simp (toZ-ofZ, s .fits .n, s .fits .d, q-fits s, lowered-fits c)
+    (nearest-by (left s (q s -ℤ pos 1) (d s +ℤ r s) (lower (q s) (d s) (r s)))
+    (omega (linear, plus-parts (d s) (r s), negative-parts (d s), times-parts (pos 2) (d s +ℤ r s)))
+    (omega (linear, h-is s, abs-parts (d s), one-part (d s), plus-parts (d s) (r s), minus-parts (h s) (d s), times-parts (pos 2) (d s +ℤ r s))))
 
 returns-3 : tie.Need-returns-3
 returns-3 c =
     let s = c .before .before in
-    let h = short c in
-    let b = below s in
-    simp (toZ-ofZ, s .fits .n, s .fits .d, q-fits s, lowered-fits c)
-    (nearest-by (left s (q s -ℤ pos 1) (d s +ℤ r s) (lower (q s) (d s) (r s)))
-    (let p = s .pre in omega (linear, plus-parts (d s) (r s), negative-parts (d s), times-parts (pos 2) (d s +ℤ r s)))
-    (omega (linear, plus-parts (d s) (r s), minus-parts (pos 0) (r s), times-parts (pos 2) (d s +ℤ r s))))
-
-returns-4 : tie.Need-returns-4
-returns-4 c =
-    let s = c .before .before in
-    let u = under (c .before) in
     let p = s .pre in
-    let h = simp (toZ-ofZ, s .fits .n, s .fits .d, r-fits s, sum-fits (c .before), flip-fits (c .before)) at (c .if3 .left) in
+    let l = not-past (c .before) in
+    let k = simp (toZ-ofZ, s .fits .n, s .fits .d, r-fits s, h-fits s, gap-fits s) at (c .if2 .left) in
     simp (toZ-ofZ, s .fits .n, s .fits .d, q-fits s)
     (nearest-by (left s (q s) (r s) (keep (q s) (d s) (r s)))
-    (omega (linear, plus-parts (d s) (r s), minus-parts (pos 0) (r s), negative-parts (d s), times-parts (pos 2) (r s)))
-    (omega (linear, times-parts (pos 2) (r s))))
+    (omega (linear, h-is s, abs-parts (d s), one-part (d s), minus-parts (h s) (d s), negative-parts (d s), times-parts (pos 2) (r s)))
+    (omega (linear, h-is s, abs-parts (d s), one-part (d s), times-parts (pos 2) (r s))))
 
 pub nearest-spec : {M : Type 1} → statement M
 nearest-spec =
@@ -187,12 +166,10 @@ nearest-spec =
     (tie.spec
     div-q
     rem-r
-    sub-if2
+    div-half
     add-result
-    add-if3
-    sub-if3
-    sub-result
     returns
+    sub-if2
+    sub-result
     returns-2
-    returns-3
-    returns-4)
+    returns-3)
