@@ -1,5 +1,6 @@
 // Planar cubics and quintics with whole points, and the verdict on each.
 mod contents;
+mod divisors;
 mod drawing;
 mod ends;
 mod preimages;

@@ -2,73 +2,30 @@
 use crate::Preimage;
 use crate::Square;
 use crate::Verdict;
+use crate::divisors::common;
+use crate::divisors::pairs_divided;
 use pair::Pair;
-use pair::PairQuotient;
 use pair::is_zero;
 use pair::negative;
 use pair::norm;
-use pair::quotient;
 use pair::turned;
+use root::Quartic;
 use root::pairs::Five;
 use root::pairs::PairRoot;
 use root::pairs::Quadratic;
 use root::pairs::pair_root;
+use whole::size;
 ghost use mathlib.Core.Path.{_≡_};
 ghost use mathlib.Core.Logic.{_≢_};
+ghost use Prim.Native.Nat.{_≤_};
+ghost use lib.IntN.{natAbs};
 ghost use Rattle.whole.specs.Number.{wholes, FirstPositive, Tells};
-ghost use Rattle.whole.specs.Poly.{Same, Greatest, scaled};
-ghost use Rattle.pair.specs.Pairs.{pairs, times, one, imaginary, PartsWithin, AllWithin};
+ghost use Rattle.whole.specs.Poly.{at, Same, Greatest, scaled};
+ghost use Rattle.pair.specs.Pairs.{pairs, imaginary, PartsWithin, AllWithin};
+ghost use Rattle.root.specs.Roots.{quartic};
 ghost use Rattle.root.specs.Pairs.{five, quadratic, LeadKept};
-ghost use Rattle.curve.specs.Curves.{squaredLength};
 ghost use Rattle.curve.specs.Verdicts.{Holds};
-ghost use Rattle.curve.specs.Steps.{Squarely, PairShares, PairsDivided, TurnedRoot, Normalised};
-
-// a / g, which is a pair.
-fn pair_share(a: Pair, g: Pair) -> Pair
-    requires { ⌜ PairShares a g ⌝ }
-    ensures { λ r. ⌜ (times g r ≡ a) × PartsWithin 1280000 r ⌝ }
-{
-    match quotient(a, g) {
-        PairQuotient::Whole(q) => q,
-        PairQuotient::None => Pair { re: 0, im: 0 },
-    }
-}
-
-// Whether a pair is 1.
-fn is_one(g: Pair) -> bool
-    ensures { λ r. ⌜ Tells (g ≡ one) r ⌝ }
-{
-    let x = g.re;
-    let y = g.im;
-    if x != 1 {
-        return false;
-    }
-    if y != 0 {
-        return false;
-    }
-    true
-}
-
-// A polynomial divided by the greatest common divisor of its pairs.
-fn pairs_divided(e: Five, g: Pair) -> Five
-    requires { ⌜ AllWithin 1280000 (five e) × Greatest pairs (five e) g × (g ≢ pairs .none) ⌝ }
-    ensures { λ r. ⌜ PairsDivided (five e) g (five r) ⌝ }
-{
-    if is_one(g) {
-        return e;
-    }
-    let a0 = e.e0;
-    let a1 = e.e1;
-    let a2 = e.e2;
-    let a3 = e.e3;
-    let a4 = e.e4;
-    let e0 = pair_share(a0, g);
-    let e1 = pair_share(a1, g);
-    let e2 = pair_share(a2, g);
-    let e3 = pair_share(a3, g);
-    let e4 = pair_share(a4, g);
-    Five { e0, e1, e2, e3, e4 }
-}
+ghost use Rattle.curve.specs.Steps.{Squarely, TurnedRoot, Normalised};
 
 // i e
 fn turned_five(e: Five) -> Five
@@ -168,37 +125,41 @@ fn normalised(k: Pair, w: Quadratic, s: Square) -> Preimage
     }
 }
 
-// The verdict on D = g f, where N is a square and g holds all that the pairs of D have in common: whether f or i f is a square.
-fn rooted(e: Five, l: u64, s: Square, g: Pair) -> Verdict
+// The size of q's coefficient at the power l.
+fn size_at(q: Quartic, l: u64) -> u64
+    requires { ⌜ l ≤ 4 ⌝ }
+    ensures { λ r. ⌜ r ≡ natAbs (at wholes (quartic q) l) ⌝ }
+{
+    if l == 4 {
+        return size(q.q4);
+    }
+    if l == 3 {
+        return size(q.q3);
+    }
+    if l == 2 {
+        return size(q.q2);
+    }
+    if l == 1 {
+        return size(q.q1);
+    }
+    size(q.q0)
+}
+
+// The verdict on D = g f, where N is a square and g holds all that the pairs of D have in common: whether f or i f is a square. The
+// highest coefficients of q and f have the size n.
+fn rooted(e: Five, l: u64, s: Square, g: Pair, n: u64) -> Verdict
     requires { ⌜ Squarely (five e) l s × Greatest pairs (five e) g × (g ≢ pairs .none) ⌝ }
     ensures { λ v. ⌜ Holds (five e) v ⌝ }
 {
     let f = pairs_divided(e, g);
-    let PairRoot::Root(w) = pair_root(f, l) else {
-        let PairRoot::Root(v) = pair_root(turned_five(f), l) else {
+    let PairRoot::Root(w) = pair_root(f, l, n) else {
+        let PairRoot::Root(v) = pair_root(turned_five(f), l, n) else {
             return Verdict::Ph(s);
         };
         let k = negative(turned(g));
         return Verdict::Pre(normalised(k, v, s));
     };
     Verdict::Pre(normalised(g, w, s))
-}
-
-// The greatest common divisor of D's pairs. Its norm divides the content c of N.
-fn common(e: Five, s: Square) -> Pair
-    requires { ⌜ AllWithin 1280000 (five e) × Greatest wholes (squaredLength (five e)) (s .c) ⌝ }
-    ensures { λ g. ⌜ Greatest pairs (five e) g ⌝ }
-{
-    let c = s.c;
-    if c == 1 {
-        return Pair { re: 1, im: 0 };
-    }
-    let e0 = e.e0;
-    let e1 = e.e1;
-    let e2 = e.e2;
-    let e3 = e.e3;
-    let e4 = e.e4;
-    pair::gcd_all([e0, e1, e2, e3, e4])
 }
 
 // The verdict on a D whose N is a square: whether D has a pre-image too.
@@ -211,5 +172,5 @@ pub(crate) fn generator(e: Five, l: u64, s: Square) -> Verdict
     if norm(g) != c {
         return Verdict::Ph(s);
     }
-    rooted(e, l, s, g)
+    rooted(e, l, s, g, size_at(s.q, l))
 }

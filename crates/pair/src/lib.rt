@@ -262,6 +262,20 @@ pub fn root(z: Pair) -> PairRoot
     }
 }
 
+// The same where |z| may be at hand: it is n, if n² is |z|².
+pub fn root_by(z: Pair, n: u64) -> PairRoot
+    requires { ⌜ PartsWithin (2 ^ 30) z ⌝ }
+    ensures { λ r. ⌜ IsPairRoot z r ⌝ }
+{
+    if n >= 4294967296 {
+        return root(z);
+    }
+    if n * n != norm(z) as u64 {
+        return root(z);
+    }
+    kept(z, candidate(z, n))
+}
+
 // Whether a pair is 0.
 pub fn is_zero(p: Pair) -> bool
     ensures { λ r. ⌜ Tells (p ≡ pairs .none) r ⌝ }

@@ -44,9 +44,12 @@ returns c =
           (λ e. c .if1 .taken (ap (ofZ w64) (c .before .norm .ensures ∙ e))),
     )
 
+size-at-requires : tie.Need-size-at-requires
+size-at-requires c κs = c .before .before .before .before .pre .low
+
 rooted-requires : tie.Need-rooted-requires
 rooted-requires c κs =
-    let t = c .before .before in
+    let t = c .before .before .before in
     let s = t .before .before in
     (s .pre, t .common .ensures, λ z. moves s (greatest-zero (t .common .ensures) .0 z))
 
@@ -60,5 +63,6 @@ generator-spec =
     common-requires
     norm-requires
     returns
+    size-at-requires
     rooted-requires
     returns-2)

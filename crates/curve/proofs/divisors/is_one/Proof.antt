@@ -1,4 +1,4 @@
--- `preimages::is_one` meets its contract.
+-- `divisors::is_one` meets its contract.
 use mathlib.Core.Path.{ap}
 use borrow.Author.Needs.{needs}
 use mir.Facts.{sfits-lit}
@@ -7,8 +7,8 @@ use mir.Val.{SFits, ofZ}
 use Rattle.whole.proofs.Machine.{same-bits}
 use Rattle.pair.specs.declared.Pair.{Pair}
 use Rattle.pair.proofs.Parts.{pair-equal}
-use Rattle.curve.proofs.preimages.is_one.Statement.{statement}
-use Rattle.curve.proofs.preimages.is_one.Tie as tie
+use Rattle.curve.proofs.divisors.is_one.Statement.{statement}
+use Rattle.curve.proofs.divisors.is_one.Tie as tie
 
 returns : tie.Need-returns
 returns c h = c .if1 .taken (ap (λ (p : Pair). ofZ w64 (p .re)) h)

@@ -1,12 +1,12 @@
--- `preimages::pair_share` meets its contract: g divides a, so the quotient is there, and it is no larger than a.
+-- `divisors::pair_share` meets its contract: g divides a, so the quotient is there, and it is no larger than a.
 use mathlib.Core.Path.{subst}
 use borrow.Author.Needs.{needs}
 use lib.Dec.{lit≤}
 use Rattle.pair.specs.Quotients.{IsPairQuotient}
 use Rattle.pair.proofs.Parts.{wider}
 use Rattle.pair.proofs.Division.{quotient-within}
-use Rattle.curve.proofs.preimages.pair_share.Statement.{statement}
-use Rattle.curve.proofs.preimages.pair_share.Tie as tie
+use Rattle.curve.proofs.divisors.pair_share.Statement.{statement}
+use Rattle.curve.proofs.divisors.pair_share.Tie as tie
 
 quotient-requires : tie.Need-quotient-requires
 quotient-requires c κs = (wider (lit≤ tt) (c .pre .a-small), wider (lit≤ tt) (c .pre .g-small), c .pre .nonzero)

@@ -1,4 +1,4 @@
--- `preimages::common` meets its contract: where c is 1, nothing but units divides D.
+-- `divisors::common` meets its contract: where c is 1, nothing but units divides D.
 use mathlib.Core.Path.{subst}
 use borrow.Author.Needs.{needs}
 use lib.Dec.{lit≤}
@@ -12,8 +12,8 @@ use Rattle.pair.proofs.Parts.{wider}
 use Rattle.root.specs.Pairs.{five}
 use Rattle.curve.specs.Curves.{squaredLength}
 use Rattle.curve.proofs.Norms.{content-one}
-use Rattle.curve.proofs.preimages.common.Statement.{statement}
-use Rattle.curve.proofs.preimages.common.Tie as tie
+use Rattle.curve.proofs.divisors.common.Statement.{statement}
+use Rattle.curve.proofs.divisors.common.Tie as tie
 
 c-fits : (c : tie.After-struct-told) → SFits w64 (c .before .args .s .c)
 c-fits c = search needs

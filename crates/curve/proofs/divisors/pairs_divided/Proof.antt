@@ -1,4 +1,4 @@
--- `preimages::pairs_divided` meets its contract, pair by pair.
+-- `divisors::pairs_divided` meets its contract, pair by pair.
 use mathlib.Core.Path.{_≡_, ap, _∙_, subst}
 use mathlib.Core.List.{List, [], _∷_}
 use Prim.Native.Nat.{ℕ, zero, suc}
@@ -15,8 +15,8 @@ use Rattle.pair.proofs.Divisors.{greatest-within}
 use Rattle.root.specs.declared.pairs.Five.{Five}
 use Rattle.root.specs.Pairs.{five}
 use Rattle.curve.specs.Steps.{PairShares, PairsDivided}
-use Rattle.curve.proofs.preimages.pairs_divided.Statement.{statement}
-use Rattle.curve.proofs.preimages.pairs_divided.Tie as tie
+use Rattle.curve.proofs.divisors.pairs_divided.Statement.{statement}
+use Rattle.curve.proofs.divisors.pairs_divided.Tie as tie
 
 -- what a share says of one coefficient
 abbrev Shared : Pair → Pair → Pair → Type 0
