@@ -1,6 +1,6 @@
 -- A coordinate as a signed number and as four bytes' worth of bits.
 --   word-within, word-outside   one comparison tells whether a word, read as signed, is from −20,000 to 20,000
---   neg-room, low-half, high-half   how the machine reads a word as signed
+--   neg-is, neg-room, low-half, high-half   how the machine negates a word, and reads one as signed
 --   below-zero, from-zero       how the machine turns a number in range into its word
 --   word-room, word-kept, word-stored   what the machine asks of that word
 --   bits-small, signed-bits     a number in range has a word, which reads back as the number
@@ -51,7 +51,7 @@ neg-fits : (m : ℕ) → m < 9223372036854775808 → SFits w64 (negℤ (pos m))
 neg-fits zero l = record { sfits = omega arith }
 neg-fits (suc k) l = record { sfits = omega arith }
 
-neg-is : (m : ℕ) → m < 9223372036854775808 → pos 0 -ℤ toZ w64 m ≡ negℤ (pos m)
+pub neg-is : (m : ℕ) → m < 9223372036854775808 → pos 0 -ℤ toZ w64 m ≡ negℤ (pos m)
 neg-is m l = ap (λ (z : ℤ). pos 0 -ℤ z) (toZ-pos w64 m l) ∙ +ℤ-idl (negℤ (pos m))
 
 pub neg-room : (m : ℕ) → m < 9223372036854775808 → SFits w64 (pos 0 -ℤ toZ w64 m)

@@ -17,8 +17,8 @@ use crate::walks::cubic_in;
 use crate::walks::quintic_in;
 use crate::walks::walk;
 use crate::writes::append_at;
-use crate::writes::cubic_numbers;
-use crate::writes::quintic_numbers;
+pub use crate::writes::cubic_numbers;
+pub use crate::writes::quintic_numbers;
 use curve::Curve;
 use refusal::Refusal;
 

@@ -19,7 +19,8 @@ use curve::Cubic;
 use curve::Quintic;
 use refusal::Refusal;
 
-pub(crate) fn cubic_numbers(c: Cubic) -> [i64; 8]
+// A cubic's coordinates, x then y of each point.
+pub fn cubic_numbers(c: Cubic) -> [i64; 8]
     ensures { λ r. ⌜ r ≡ numbersOf (pointsOf (curves.Cubic c)) ⌝ }
 {
     let p0 = c.p0;
@@ -29,7 +30,8 @@ pub(crate) fn cubic_numbers(c: Cubic) -> [i64; 8]
     [p0.re, p0.im, p1.re, p1.im, p2.re, p2.im, p3.re, p3.im]
 }
 
-pub(crate) fn quintic_numbers(c: Quintic) -> [i64; 12]
+// The same for a quintic.
+pub fn quintic_numbers(c: Quintic) -> [i64; 12]
     ensures { λ r. ⌜ r ≡ numbersOf (pointsOf (curves.Quintic c)) ⌝ }
 {
     let p0 = c.p0;

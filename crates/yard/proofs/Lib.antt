@@ -1,0 +1,3 @@
+-- What the proofs of several functions use, and what the promises have in common.
+mod Areas
+mod Handing

@@ -1,0 +1,62 @@
+-- `curves::yard_offset` meets its contract.
+use borrow.Author.Needs.{needs}
+use mathlib.Core.Path.{refl}
+use mir.Syntax.{w64}
+use mir.ValLaws.{toZ-ofZ}
+use Rattle.sheet.proofs.Signs.{settled}
+use Rattle.yard.proofs.Areas.{hands-same}
+use Rattle.yard.proofs.Handing.{wrong-count, right-count}
+use Rattle.yard.proofs.curves.yard_offset.Statement.{statement}
+use Rattle.yard.proofs.curves.yard_offset.Tie as tie
+
+curve-in-requires : tie.Need-curve-in-requires
+curve-in-requires c κs = search needs
+
+enum-known-curve : tie.Need-enum-known-curve
+enum-known-curve c = search needs
+
+enum-told : tie.Need-enum-told
+enum-told c = search needs
+
+refused-requires : tie.Need-refused-requires
+refused-requires c κs = search needs
+
+same-length : tie.Need-same-length
+same-length c = search needs
+
+returns : tie.Need-returns
+returns c =
+    wrong-count (c .before .before .before .before .before .curve-in .ensures) (c .before .before .before .enum-told .given .1)
+    (hands-same refl (c .before .refused .ok) (c .before .refused .ensures))
+
+offset-requires : tie.Need-offset-requires
+offset-requires c κs = search needs
+
+offset-count-requires : tie.Need-offset-count-requires
+offset-count-requires c κs = search needs
+
+same-length-2 : tie.Need-same-length-2
+same-length-2 c = search needs
+
+returns-2 : tie.Need-returns-2
+returns-2 c =
+    let k = c .before .before .before .before .before in
+    let s = k .before .before .before in
+    let r = c .before .before .offset in
+    right-count (k .before .before .curve-in .ensures) (k .curve .given .0 .0) (k .curve .given .1)
+    (r .result, rw (toZ-ofZ w64 (s .args .h) (s .fits .h)) at (r .ensures), settled (c .offset-count .ok) (c .offset-count .ensures))
+
+pub yard-offset-spec : {M : Type 1} → statement M
+yard-offset-spec =
+    tie.close
+    (tie.spec
+    curve-in-requires
+    enum-known-curve
+    enum-told
+    refused-requires
+    same-length
+    returns
+    offset-requires
+    offset-count-requires
+    same-length-2
+    returns-2)
