@@ -1,3 +1,4 @@
 -- What the proofs of several functions use, and what the promises have in common.
 mod Areas
 mod Handing
+mod Once

@@ -99,7 +99,7 @@ OffsetCall p h before after r =
     (λ c. (a : OffsetAnswer) × OffsetBy c h before after a × (r ≡ coded (countOfOffset c a)))
 
 abbrev pub OnSource : List ℤ → Type 0 → (Source → Type 0) → Type 0
-OnSource w Wrong Right = ((length w ≢ 4) × (length w ≢ 6) × Wrong) ⊎ ((s : Source) × (numbersOf (builtFrom s) ≡ w) × Right s)
+OnSource w Wrong Right = (((length w ≢ 4) × (length w ≢ 6)) × Wrong) ⊎ ((s : Source) × (numbersOf (builtFrom s) ≡ w) × Right s)
 
 abbrev pub BuildCall : Pair → List ℤ → List ℤ → List ℤ → ℤ → Type 0
 BuildCall p0 w before after r = OnSource w (Hands (refuse refusal.Length 0) before after r) (λ s. Handed (Built p0 s) builtNumbers before after r)

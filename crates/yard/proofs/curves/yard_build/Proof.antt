@@ -78,7 +78,7 @@ same-length-3 c = search needs
 returns-3 : tie.Need-returns-3
 returns-3 c =
     let k = c .before .before .before in
-    inl (k .before .if1 .left, k .if2 .left, hands-same refl (c .before .refused .ok) (c .before .refused .ensures))
+    inl ((k .before .if1 .left, k .if2 .left), hands-same refl (c .before .refused .ok) (c .before .refused .ensures))
 
 pub yard-build-spec : {M : Type 1} → statement M
 yard-build-spec =
