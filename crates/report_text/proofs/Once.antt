@@ -15,7 +15,7 @@ use Rattle.curve.specs.Promise.{Recognised}
 use Rattle.curve.proofs.Once.{recognised-once}
 use Rattle.sheet.specs.declared.Reading.the-variants as reading
 use Rattle.sheet.specs.Sheets.{Answer, refused, given, with-given, outcome}
-use Rattle.sheet.proofs.Laws.{read-once}
+use Rattle.sheet.proofs.Once.{read-once}
 use Rattle.report_text.specs.declared.ReportAnswer.{ReportAnswer}
 use Rattle.report_text.specs.declared.ReportAnswer.the-variants as report
 use Rattle.report_text.specs.Texts.{firstLine, lineText}

@@ -22,7 +22,7 @@ use Rattle.report_text.specs.declared.areas.Place.{Place}
 use Rattle.report_text.specs.declared.areas.Place.the-variants.{At, Full}
 use Rattle.report_text.specs.Reports.{Report, asked, areaAfter, Reported}
 use Rattle.report_text.specs.Steps.{Writes, HoldsReport}
-use Rattle.report_text.proofs.OfSheet.{no-answer}
+use Rattle.sheet.proofs.Answers.{no-answer}
 
 pub holds-report : {s before after : List ℕ} {next : Place} (text : List ℕ) → Report s text → Writes before (At 0) text after next → HoldsReport s after next
 holds-report text r w = record { text = text; of-sheet = r; held = w .then-holds [] (refl, omega arith, refl) }

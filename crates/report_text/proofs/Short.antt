@@ -2,7 +2,8 @@
 --   content-small, length-small   c has at most 15 digits, and A at most 10
 --   line-short                    a line of a curve has at most 47 bytes
 --   report-short                  a report has at most 5,321 bytes
---   room-enough                   so an area of that length is not refused
+--   room-enough                   so an area of that length is not refused, and
+--   written-short                 no more bytes are written
 use mathlib.Core.Path.{_≡_, refl, sym, ap, _∙_}
 use mathlib.Core.List.{List, _++_}
 use Prim.Native.Nat.{ℕ, zero, suc, _*_, _^_, _≤_, _<_}
@@ -31,14 +32,17 @@ use Rattle.curve.specs.Promise.{Recognised}
 use Rattle.curve.proofs.LegPolynomial.{pointsOf-length}
 use Rattle.curve.proofs.Sizes.{root-size}
 use Rattle.measure.specs.Lengths.{lengthA, lengthB}
-use Rattle.sheet.specs.Sheets.{refused, given, with-given, outcome}
+use Rattle.sheet.specs.Sheets.{Answer, refused, given, with-given, outcome}
+use Rattle.sheet.proofs.Answers.{no-answer}
+use Rattle.sheet.proofs.Choose.{by-test}
 use Rattle.sheet.proofs.Outcomes.{Records, reads}
+use Rattle.sheet.proofs.Faults.{curves-few, fault-small}
 use Rattle.report_text.specs.declared.ReportAnswer.the-variants as report
 use Rattle.report_text.specs.Texts.{signed, labelled, bytes, decimal, firstLine, kindText, verdictText}
-use Rattle.report_text.specs.Reports.{Line, Lines, ReportOf, Report, Reported}
+use Rattle.report_text.specs.Reports.{Line, Lines, ReportOf, Report, asked, Reported}
 use Rattle.report_text.proofs.Decimals.{decimal-few}
 use Rattle.report_text.proofs.Lengths.{root-small, length-nonneg}
-use Rattle.report_text.proofs.OfSheet.{no-answer, read-in-range, curves-few, fault-small}
+use Rattle.report_text.proofs.OfSheet.{read-in-range}
 use Rattle.report_text.proofs.Reported.{asked-fits}
 
 -- ---- the numbers
@@ -155,3 +159,11 @@ report-short s t = by (outcome s) refl
 
 pub room-enough : (s before after : List ℕ) (r : Refusal) → 5321 ≤ length before → Reported s before after (report.Refused r) → ⊥
 room-enough s before after r l h = no-answer (sym (h .says ∙ asked-fits (length before) (h .text) (omega (arith, report-short s (h .text) (h .of-sheet)))))
+
+asked-written : (room : ℕ) (text : List ℕ) (n : ℕ) → given n ≡ asked room text → n ≡ length text
+unfolding asked
+asked-written room text n = by-test (λ (a : Answer ℕ). given n ≡ a → n ≡ length text) _ (λ _ e. no-answer e) (λ _ e. cc)
+
+pub written-short : (s before after : List ℕ) (n : ℕ) → Reported s before after (report.Written n) → n ≤ 5321
+written-short s before after n h =
+    omega (arith, asked-written (length before) (h .text) n (h .says), report-short s (h .text) (h .of-sheet))

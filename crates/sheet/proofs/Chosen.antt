@@ -3,6 +3,7 @@
 --   whole-long      a whole record is not empty
 --   none-chosen     an empty part: there is no such record
 --   one-chosen      any other part is the record, whole
+--   none-placed, one-placed    so it stands nowhere, or there
 --   cubic-long, quintic-long   how long a record is, by its kind's name
 use mathlib.Core.Path.{_≡_, refl, sym, ap, _∙_, subst}
 use mathlib.Core.Bool.{true, false, false≢true}
@@ -15,7 +16,7 @@ use lib.Seq.{length-take-le}
 use Rattle.refusal.specs.declared.Refusal.the-variants as refusal
 use Rattle.sheet.specs.Kinds.{Kind, cubicKind}
 use Rattle.sheet.specs.Steps.{named}
-use Rattle.sheet.specs.Sheets.{given, refuse, outcome, nth, chosen}
+use Rattle.sheet.specs.Sheets.{Answer, given, refuse, outcome, earlier, placed, total, nth, chosen, with-given}
 use Rattle.sheet.specs.Promises.{part}
 use Rattle.sheet.specs.Inner.{Lists}
 use Rattle.sheet.specs.declared.walks.Listing.{Listing}
@@ -67,6 +68,19 @@ module _ {s : List ℕ} {number : ℕ} {l : Listing} (h : Lists s number l) wher
       let q : found ≡ g .0 = h .part-is ∙ ap part (g .1) in
       (chosen-is ∙ g .1 ∙ ap given (sym q), subst Whole (sym q) (g .2)))
       whole
+
+  placed-as : {a : Answer (List ℕ)} → chosen number (outcome s) ≡ a → placed number (outcome s) ≡ with-given (λ x. total (earlier number (h .records)) ∷ length x ∷ []) a
+  placed-as e = ap (placed number) (h .outcome-is) ∙ ap (with-given (λ x. total (earlier number (h .records)) ∷ length x ∷ [])) (sym chosen-is ∙ e)
+
+  pub none-placed : l .from ≡ l .to → placed number (outcome s) ≡ refuse refusal.Number 0
+  none-placed e = placed-as (none-chosen e)
+
+  pub one-placed : (l .from ≡ l .to → ⊥) → placed number (outcome s) ≡ given (l .from ∷ (l .to - l .from) ∷ [])
+  unfolding found
+  one-placed n =
+      let g = one-chosen n .0 in
+      let at : total (earlier number (h .records)) ≡ l .from = sym (h .from-is found (sym chosen-is ∙ g)) in
+      placed-as g ∙ (λ i. given (at i ∷ found-long i ∷ []))
 
 cubic-size : {k : Kind} (x : List ℕ) → Known k → named (k .name) x ≡ true → named (cubicKind .name) x ≡ true → k .size ≡ 36
 cubic-size x cubic n m = refl

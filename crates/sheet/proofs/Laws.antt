@@ -1,8 +1,8 @@
--- What follows from the promises: each has one answer, and the calls agree with one another.
---   check-once, read-once, find-once, erase-once, append-once   what meets a promise twice is equal
+-- What follows from the promises: how the calls agree with one another.
 --   Refuses          an answer of `read` that is a refusal
 --   find-read        `find` gives an empty part where `read` refuses, and otherwise the part whose points `read` gives
---   chosen-part      a record that is found is a part of the sheet
+--   chosen-placed    a record that is found is a part of the sheet, behind the earlier ones
+--   located-found    so what `locate` names is within the sheet's 4,096 bytes, and is the part that `find` gives
 --   chosen-in-range  its points are in range
 --   no-curve, no-room   the causes of NUMBER and of ROOM
 --   read-order       on a sound sheet read refuses NUMBER exactly where no curve has the number
@@ -14,28 +14,24 @@ use mathlib.Core.Path.{_≡_, refl, sym, ap, _∙_, subst}
 use mathlib.Core.Bool.{true≢false}
 use mathlib.Core.Logic.{_↔_, _⊎_, inl, inr, ⊎-elim}
 use mathlib.Core.List.{List, [], _∷_, _++_, append-assoc}
-use Prim.Native.Nat.{ℕ, zero, suc, _-_, _/_, _≤_, _<_}
+use Prim.Native.Nat.{ℕ, zero, suc, _+_, _-_, _/_, _≤_, _<_}
 use native.Mathlib.Omega.{arith}
-use lib.ListN.{length, length-append}
+use lib.ListN.{length, take, drop, length-append}
+use lib.Seq.{take-at, drop-at}
 use borrow.Author.Tests.{not-true, not-false, ltb-true, ltb-false}
-use Rattle.refusal.specs.declared.Refusal.{Refusal}
 use Rattle.refusal.specs.declared.Refusal.the-variants as refusal
-use Rattle.refusal.specs.Table.{numberOf, Cause, First}
-use Rattle.refusal.proofs.Laws.{number-once}
+use Rattle.refusal.specs.Table.{Cause, First}
 use Rattle.curve.specs.declared.Curve.{Curve}
-use Rattle.curve.specs.declared.Curve.the-variants as curves
 use Rattle.curve.specs.Curves.{pointsOf, InRange}
 use Rattle.curve.specs.Promise.{out-of-range}
 use Rattle.sheet.specs.Numbers.{coordinates, paired}
 use Rattle.sheet.specs.Kinds.{kindOf}
-use Rattle.sheet.specs.Sheets.{Answer, refused, given, refuse, with-given, outcome, nth, chosen, pointsIn, numberOfAnswer, erasing, total, appendingAt, appendingTo, appending}
-use Rattle.sheet.specs.Promises.{answerOfChecked, answerOfReading, answerOfChange, part, Checks, Reads, Finds, Changes, Erases, Appends}
-use Rattle.sheet.specs.declared.Checked.{Checked}
-use Rattle.sheet.specs.declared.Checked.the-variants as checked
+use Rattle.sheet.specs.Sheets.{Answer, refused, given, with-given, outcome, nth, chosen, earlier, placed, pointsIn, numberOfAnswer, total, appendingAt, appendingTo, appending}
+use Rattle.sheet.specs.Promises.{answerOfReading, part, Reads, Locates, Finds}
 use Rattle.sheet.specs.declared.Reading.{Reading}
 use Rattle.sheet.specs.declared.Reading.the-variants as reading
-use Rattle.sheet.specs.declared.Change.{Change}
-use Rattle.sheet.specs.declared.Change.the-variants as change
+use Rattle.sheet.specs.declared.Location.the-variants as location
+use Rattle.sheet.proofs.Answers.{no-answer}
 use Rattle.sheet.proofs.Choose.{by-test}
 use Rattle.sheet.proofs.Shown.{Whole, sizes}
 use Rattle.sheet.proofs.Outcomes.{Records, flat, total-is, sound-of}
@@ -43,71 +39,6 @@ use Rattle.sheet.proofs.Passed.{nth-last, nth-other}
 use Rattle.sheet.proofs.Chosen.{nth-whole, whole-long}
 use Rattle.sheet.proofs.Formed.{recordOf, record-points, range-is, range-paired}
 use Rattle.sheet.proofs.Appended.{outcome-after}
-
--- ---- one answer
-
--- two refusals with one number and one place are one
-refusal-once : {A : Type 0} (r r′ : Refusal) (p p′ : ℕ) → _≡_ {A = Answer A} (refuse r p) (refuse r′ p′) → (r ≡ r′) × (p ≡ p′)
-refusal-once r r′ p p′ e = let n : numberOf r ≡ numberOf r′ = cc in (number-once r r′ n, (cc))
-
-no-answer : {A X : Type 0} {a : A} {n p : ℕ} → given a ≡ refused n p → X
-no-answer e = let z : _≡_ {A = ℕ} 0 1 = cc in absurd (omega arith)
-
-checked-same : (r r′ : Checked) → answerOfChecked r ≡ answerOfChecked r′ → r ≡ r′
-checked-same (checked.Curves n) (checked.Curves n′) e = let q : n ≡ n′ = cc in ap checked.Curves q
-checked-same (checked.Curves n) (checked.Refused r p) e = no-answer e
-checked-same (checked.Refused r p) (checked.Curves n) e = no-answer (sym e)
-checked-same (checked.Refused r p) (checked.Refused r′ p′) e = let q = refusal-once {A = ℕ} r r′ p p′ e in λ i. checked.Refused (q .0 i) (q .1 i)
-
-pub check-once : (s : List ℕ) (r r′ : Checked) → Checks s r → Checks s r′ → r ≡ r′
-check-once s r r′ p q = checked-same r r′ (p ∙ sym q)
-
-points-same : (c c′ : Curve) → pointsOf c ≡ pointsOf c′ → c ≡ c′
-points-same (curves.Cubic c) (curves.Cubic c′) e =
-    let e0 : c .p0 ≡ c′ .p0 = cc in
-    let e1 : c .p1 ≡ c′ .p1 = cc in
-    let e2 : c .p2 ≡ c′ .p2 = cc in
-    let e3 : c .p3 ≡ c′ .p3 = cc in
-    λ i. curves.Cubic (record { p0 = e0 i; p1 = e1 i; p2 = e2 i; p3 = e3 i })
-points-same (curves.Cubic c) (curves.Quintic c′) e = let l = ap length e in absurd (omega arith)
-points-same (curves.Quintic c) (curves.Cubic c′) e = let l = ap length e in absurd (omega arith)
-points-same (curves.Quintic c) (curves.Quintic c′) e =
-    let e0 : c .p0 ≡ c′ .p0 = cc in
-    let e1 : c .p1 ≡ c′ .p1 = cc in
-    let e2 : c .p2 ≡ c′ .p2 = cc in
-    let e3 : c .p3 ≡ c′ .p3 = cc in
-    let e4 : c .p4 ≡ c′ .p4 = cc in
-    let e5 : c .p5 ≡ c′ .p5 = cc in
-    λ i. curves.Quintic (record { p0 = e0 i; p1 = e1 i; p2 = e2 i; p3 = e3 i; p4 = e4 i; p5 = e5 i })
-
-reading-same : (r r′ : Reading) → answerOfReading r ≡ answerOfReading r′ → r ≡ r′
-reading-same (reading.Points c) (reading.Points c′) e = let q : pointsOf c ≡ pointsOf c′ = cc in ap reading.Points (points-same c c′ q)
-reading-same (reading.Points c) (reading.Refused r p) e = no-answer e
-reading-same (reading.Refused r p) (reading.Points c) e = no-answer (sym e)
-reading-same (reading.Refused r p) (reading.Refused r′ p′) e = let q = refusal-once r r′ p p′ e in λ i. reading.Refused (q .0 i) (q .1 i)
-
-pub read-once : (s : List ℕ) (number : ℕ) (r r′ : Reading) → Reads s number r → Reads s number r′ → r ≡ r′
-read-once s number r r′ p q = reading-same r r′ (p ∙ sym q)
-
-pub find-once : (s : List ℕ) (number : ℕ) (x x′ : List ℕ) → Finds s number x → Finds s number x′ → x ≡ x′
-find-once s number x x′ p q = p ∙ sym q
-
-change-same : (t : List ℕ) (r r′ : Change) → answerOfChange t r ≡ answerOfChange t r′ → r ≡ r′
-change-same t change.Done change.Done e = refl
-change-same t change.Done (change.Refused r p) e = no-answer e
-change-same t (change.Refused r p) change.Done e = no-answer (sym e)
-change-same t (change.Refused r p) (change.Refused r′ p′) e = let q = refusal-once r r′ p p′ e in λ i. change.Refused (q .0 i) (q .1 i)
-
-change-once : (s : List ℕ) (asked : Answer (List ℕ)) (t t′ : List ℕ) (r r′ : Change) → Changes s asked t r → Changes s asked t′ r′ → (t ≡ t′) × (r ≡ r′)
-change-once s asked t t′ r r′ p q =
-    let e = p .leaves ∙ sym (q .leaves) in
-    (e, change-same t r r′ (p .says ∙ sym (q .says) ∙ ap (λ (u : List ℕ). answerOfChange u r′) (sym e)))
-
-pub erase-once : (s t t′ : List ℕ) (r r′ : Change) → Erases s t r → Erases s t′ r′ → (t ≡ t′) × (r ≡ r′)
-erase-once s t t′ r r′ p q = change-once s (erasing s) t t′ r r′ p q
-
-pub append-once : (s : List ℕ) (c : Curve) (t t′ : List ℕ) (r r′ : Change) → Appends s c t r → Appends s c t′ r′ → (t ≡ t′) × (r ≡ r′)
-append-once s c t t′ r r′ p q = change-once s (appending s c) t t′ r r′ (p .changes) (q .changes)
 
 -- ---- find and read
 
@@ -143,24 +74,50 @@ find-read s number r x = go r (chosen number (outcome s)) refl
     go (reading.Refused r p) (refused n m) q e f = ((λ _. tt, λ _. f), λ c d. let z : _≡_ {A = ℕ} 0 1 = cc in absurd (omega arith))
     go (reading.Refused r p) (given y) q e f = no-answer (sym e)
 
-nth-part : (number : ℕ) (rs : List (List ℕ)) (x : List ℕ) → nth number rs ≡ given x → (front back : List ℕ) × (flat rs ≡ front ++ (x ++ back))
+nth-part : (number : ℕ) (rs : List (List ℕ)) (x : List ℕ) → nth number rs ≡ given x →
+    (front back : List ℕ) × (flat rs ≡ front ++ (x ++ back)) × (length front ≡ total (earlier number rs))
 nth-part zero [] x e = no-answer (sym e)
 nth-part (suc zero) [] x e = no-answer (sym e)
 nth-part (suc (suc k)) [] x e = no-answer (sym e)
 nth-part zero (r ∷ rs) x e = no-answer (sym e)
-nth-part (suc zero) (r ∷ rs) x e = let q : r ≡ x = cc in ([], flat rs, ap (λ (y : List ℕ). y ++ flat rs) q)
+nth-part (suc zero) (r ∷ rs) x e = let q : r ≡ x = cc in ([], flat rs, ap (λ (y : List ℕ). y ++ flat rs) q, refl)
 nth-part (suc (suc k)) (r ∷ rs) x e =
     let h = nth-part (suc k) rs x e in
-    (r ++ h .0, h .1, ap (λ (y : List ℕ). r ++ y) (h .2) ∙ sym (append-assoc r (h .0) (x ++ h .1)))
+    (r ++ h .0, h .1, ap (λ (y : List ℕ). r ++ y) (h .2) ∙ sym (append-assoc r (h .0) (x ++ h .1)), omega (arith, length-append r (h .0), h .3))
 
-pub chosen-part : (s : List ℕ) (number : ℕ) (x : List ℕ) → chosen number (outcome s) ≡ given x → (front back : List ℕ) × (s ≡ front ++ (x ++ back))
-chosen-part s number x e =
+pub chosen-placed : (s : List ℕ) (number : ℕ) (x : List ℕ) → chosen number (outcome s) ≡ given x →
+    (front back : List ℕ) × (s ≡ front ++ (x ++ back)) × (placed number (outcome s) ≡ given (length front ∷ length x ∷ []))
+chosen-placed s number x e =
     let f = chosen-from s number (outcome s) x refl e in
     let h = sound-of s (f .0) (f .1) .1 in
     let p = nth-part number (f .0) x (f .2) in (
       p .0,
       p .1 ++ h .tail,
       h .parts ∙ ap (λ (y : List ℕ). y ++ h .tail) (p .2) ∙ append-assoc (p .0) (x ++ p .1) (h .tail) ∙ ap (λ (y : List ℕ). p .0 ++ y) (append-assoc x (p .1) (h .tail)),
+      ap (placed number) (f .1) ∙ ap (with-given (λ y. total (earlier number (f .0)) ∷ length y ∷ [])) (f .2) ∙ ap (λ (n : ℕ). given (n ∷ length x ∷ [])) (sym (p .3)),
+    )
+
+placed-chosen : (s : List ℕ) (number : ℕ) (a : Records) (l : List ℕ) → outcome s ≡ a → placed number a ≡ given l → (x : List ℕ) × (chosen number a ≡ given x)
+placed-chosen s number (refused n p) l o e = no-answer (sym e)
+placed-chosen s number (given rs) l o e = by (nth number rs) refl e
+  where
+    by : (a : Answer (List ℕ)) → nth number rs ≡ a → with-given (λ y. total (earlier number rs) ∷ length y ∷ []) a ≡ given l → (x : List ℕ) × (nth number rs ≡ given x)
+    by (refused n p) q e = no-answer (sym e)
+    by (given x) q e = (x, q)
+
+pub located-found : (s : List ℕ) (number place long : ℕ) → Locates s number (location.At place long) →
+    (length s ≤ 4096) × (place + long ≤ length s) × Finds s number (take long (drop place s))
+located-found s number place long e =
+    let f = placed-chosen s number (outcome s) (place ∷ long ∷ []) refl (sym e) in
+    let x = f .0 in
+    let p = chosen-placed s number x (f .1) in
+    let both : given (length (p .0) ∷ length x ∷ []) ≡ given (place ∷ long ∷ []) = sym (p .3) ∙ sym e in
+    let at : length (p .0) ≡ place = cc in
+    let size : length x ≡ long = cc in
+    let rest : drop place s ≡ x ++ p .1 = ap (drop place) (p .2) ∙ drop-at (p .0) (x ++ p .1) place at in (
+      sound-of s _ (chosen-from s number (outcome s) x refl (f .1) .1) .0,
+      omega (arith, ap length (p .2), length-append (p .0) (x ++ p .1), length-append x (p .1)),
+      ap (take long) rest ∙ take-at x (p .1) long size ∙ sym (ap part (f .1)),
     )
 
 pub chosen-in-range : (s : List ℕ) (number : ℕ) (x : List ℕ) → chosen number (outcome s) ≡ given x → InRange (pointsIn x)

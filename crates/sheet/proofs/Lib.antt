@@ -1,5 +1,6 @@
--- What the proofs share, and, in Laws and Examples, what other crates may cite.
+-- What the proofs share, and, in Once, Laws, Faults and Examples, what other crates may cite.
 pub mod Choose
+pub mod Answers
 pub mod Signs
 pub mod Loops
 pub mod Pieces
@@ -9,5 +10,7 @@ pub mod Passed
 pub mod Chosen
 pub mod Formed
 pub mod Appended
+pub mod Once
 pub mod Laws
+pub mod Faults
 pub mod Examples

@@ -1,6 +1,6 @@
 -- Where the walk over a sheet's records stands.
 --   Passed          `count` records end at `at`, and what is read there decides the rest; the record of the number is from `from` to `to`
---   nth-last, nth-other   the record of a number where one more stands at the list's end
+--   nth-last, nth-other, nth-before   the record of a number, and those before it, where one more stands at the list's end
 --   rest-is         what is left at a place, as the code takes it
 --   passed-none     at the start
 --   farther         a record goes on, and not past the sheet's end
@@ -11,13 +11,14 @@ use mathlib.Core.List.{List, [], _∷_, _++_, append-assoc, append-nil}
 use Prim.Native.Nat.{ℕ, zero, suc, _+_, _-_, _≤_, _<_}
 use native.Mathlib.Omega.{arith}
 use lib.ListN.{length, take, drop, length-append, length-drop}
-use lib.Seq.{length-take-le, take-all, drop-drop}
+use lib.Seq.{length-take-le, take-all, take-at, drop-drop}
 use Rattle.refusal.specs.declared.Refusal.{Refusal}
 use Rattle.sheet.specs.Steps.{stepOf}
-use Rattle.sheet.specs.Sheets.{refused, given, refuse, with-given, outcome, nth, total}
+use Rattle.sheet.specs.Sheets.{refused, given, refuse, with-given, outcome, nth, earlier, total}
 use Rattle.sheet.specs.Promises.{part}
 use Rattle.sheet.specs.Inner.{Lists}
 use Rattle.sheet.specs.declared.steps.Step.the-variants as step
+use Rattle.sheet.proofs.Answers.{no-answer}
 use Rattle.sheet.proofs.Shown.{step-whole}
 use Rattle.sheet.proofs.Outcomes.{Records, reads, reads-ends, reads-fault, reads-record, outcome-short}
 
@@ -47,6 +48,12 @@ nth-other zero (r ∷ rs) x n = refl
 nth-other (suc zero) (r ∷ rs) x n = refl
 nth-other (suc (suc k)) (r ∷ rs) x n = nth-other (suc k) rs x (λ e. n (ap suc e))
 
+nth-before : (number : ℕ) (rs : List (List ℕ)) (x y : List ℕ) → nth number rs ≡ given y → earlier number (rs ++ (x ∷ [])) ≡ earlier number rs
+nth-before zero rs x y e = refl
+nth-before (suc zero) rs x y e = refl
+nth-before (suc (suc k)) [] x y e = no-answer (sym e)
+nth-before (suc (suc k)) (r ∷ rs) x y e = ap (λ (l : List (List ℕ)). r ∷ l) (nth-before (suc k) rs x y e)
+
 -- ---- the walk
 
 pub record Passed (s : List ℕ) (number at count from to : ℕ) : Type 0 where
@@ -58,6 +65,7 @@ pub record Passed (s : List ℕ) (number at count from to : ℕ) : Type 0 where
   pub end-is : at ≡ total behind
   pub forward : from ≤ to
   pub to-fits : to ≤ length s
+  pub from-is : (x : List ℕ) → nth number behind ≡ given x → from ≡ total (earlier number behind)
   pub part-is : take (to - from) (drop from s) ≡ part (nth number behind)
 
 after-none : (a : Records) → a ≡ after [] a
@@ -75,6 +83,7 @@ passed-none s number =
       end-is = refl;
       forward = omega arith;
       to-fits = omega arith;
+      from-is = λ x e. no-answer (sym e);
       part-is = refl;
     }
 
@@ -93,6 +102,7 @@ module _ {s : List ℕ} {number at count from to : ℕ} (p : Passed s number at 
         end-fits = p .room;
         forward = p .forward;
         to-fits = p .to-fits;
+        from-is = p .from-is;
         part-is = p .part-is;
       }
 
@@ -108,8 +118,9 @@ module _ {s : List ℕ} {number at count from to : ℕ} (p : Passed s number at 
 
     -- with the record behind, whatever stands at `from` and `to`
     passed-with : (from′ to′ : ℕ) → from′ ≤ to′ → to′ ≤ length s →
+        ((x : List ℕ) → nth number (p .behind ++ (take size (drop at s) ∷ [])) ≡ given x → from′ ≡ total (earlier number (p .behind ++ (take size (drop at s) ∷ [])))) →
         take (to′ - from′) (drop from′ s) ≡ part (nth number (p .behind ++ (take size (drop at s) ∷ []))) → Passed s number (at + size) (count + 1) from′ to′
-    passed-with from′ to′ f t q =
+    passed-with from′ to′ f t b q =
         let g = farther .0 in
         record {
           behind = p .behind ++ (take size (drop at s) ∷ []);
@@ -123,6 +134,7 @@ module _ {s : List ℕ} {number at count from to : ℕ} (p : Passed s number at 
           end-is = omega (arith, p .end-is, total-one (p .behind) (take size (drop at s)), long);
           forward = f;
           to-fits = t;
+          from-is = b;
           part-is = q;
         }
 
@@ -131,9 +143,12 @@ module _ {s : List ℕ} {number at count from to : ℕ} (p : Passed s number at 
         let d : at + size - at ≡ size = omega arith in
         let m : number ≡ suc (length (p .behind)) = omega (arith, p .count-is) in
         passed-with at (at + size) (omega arith) (farther .1)
+        (λ x e. p .end-is ∙ ap total (sym (ap (λ (n : ℕ). earlier n (p .behind ++ (take size (drop at s) ∷ []))) m ∙ take-at (p .behind) (take size (drop at s) ∷ []) (length (p .behind)) refl)))
         (rw (d, m) (ap part (sym (nth-last (p .behind) (take size (drop at s))))))
 
     pub passed-past : (count + 1 ≡ number → ⊥) → Passed s number (at + size) (count + 1) from to
     passed-past n =
+        let same = nth-other number (p .behind) (take size (drop at s)) (λ m. n (omega (arith, p .count-is))) in
         passed-with from to (p .forward) (p .to-fits)
-        (p .part-is ∙ ap part (sym (nth-other number (p .behind) (take size (drop at s)) (λ m. n (omega (arith, p .count-is))))))
+        (λ x e. let g = sym same ∙ e in p .from-is x g ∙ ap total (sym (nth-before number (p .behind) (take size (drop at s)) x g)))
+        (p .part-is ∙ ap part (sym same))

@@ -9,7 +9,7 @@ use Prim.Native.Nat.{ℕ, _+_, _-_, _*_, _≤_}
 use lib.IntN.{ℤ}
 use lib.ListN.{length, take, drop}
 use Rattle.sheet.specs.Kinds.{Kind}
-use Rattle.sheet.specs.Sheets.{given, refuse, outcome, nth, total, appendingAt}
+use Rattle.sheet.specs.Sheets.{given, refuse, outcome, nth, earlier, total, appendingAt}
 use Rattle.sheet.specs.Promises.{part, Changes}
 use Rattle.sheet.specs.declared.Change.{Change}
 use Rattle.sheet.specs.declared.walks.Listing.{Listing}
@@ -25,6 +25,7 @@ pub record Lists (s : List ℕ) (number : ℕ) (l : Listing) : Type 0 where
   pub end-fits : l .end ≤ length s
   pub forward : l .from ≤ l .to
   pub to-fits : l .to ≤ length s
+  pub from-is : (x : List ℕ) → nth number records ≡ given x → l .from ≡ total (earlier number records)
   pub part-is : take (l .to - l .from) (drop (l .from) s) ≡ part (nth number records)
 
 abbrev pub Walked : List ℕ → ℕ → Survey → Type 0

@@ -1,9 +1,9 @@
 -- What each call promises. For every answer there is a definition of 01's number and of its values in each case, and the promises speak through it.
---   answerOfChecked, answerOfReading, answerOfChange   an answer in 01's terms
+--   answerOfChecked, answerOfReading, answerOfLocation, answerOfChange   an answer in 01's terms
 --   part       the bytes of a chosen record: none where it is refused
 --   sheetAfter what a call leaves of a sheet
 --   Changes    what a call that writes a sheet says and leaves
---   Checks, Reads, Finds, Erases, Appends              the promises
+--   Checks, Reads, Locates, Finds, Erases, Appends     the promises
 use mathlib.Core.Path.{_≡_}
 use mathlib.Core.List.{List, [], _∷_, _++_}
 use Prim.Native.Nat.{ℕ}
@@ -15,9 +15,11 @@ use Rattle.sheet.specs.declared.Checked.{Checked}
 use Rattle.sheet.specs.declared.Checked.the-variants as checked
 use Rattle.sheet.specs.declared.Reading.{Reading}
 use Rattle.sheet.specs.declared.Reading.the-variants as reading
+use Rattle.sheet.specs.declared.Location.{Location}
+use Rattle.sheet.specs.declared.Location.the-variants as location
 use Rattle.sheet.specs.declared.Change.{Change}
 use Rattle.sheet.specs.declared.Change.the-variants as change
-use Rattle.sheet.specs.Sheets.{Answer, refused, given, refuse, with-given, outcome, chosen, pointsIn, curvesIn, erasing, appending}
+use Rattle.sheet.specs.Sheets.{Answer, refused, given, refuse, with-given, outcome, chosen, placed, pointsIn, curvesIn, erasing, appending}
 
 abbrev pub answerOfChecked : Checked → Answer ℕ
 answerOfChecked (checked.Curves n) = given n
@@ -26,6 +28,10 @@ answerOfChecked (checked.Refused r place) = refuse r place
 abbrev pub answerOfReading : Reading → Answer (List Pair)
 answerOfReading (reading.Points c) = given (pointsOf c)
 answerOfReading (reading.Refused r place) = refuse r place
+
+abbrev pub answerOfLocation : Location → Answer (List ℕ)
+answerOfLocation (location.At place length) = given (place ∷ length ∷ [])
+answerOfLocation (location.Refused r place) = refuse r place
 
 -- of a call after which the sheet is t
 abbrev pub answerOfChange : List ℕ → Change → Answer (List ℕ)
@@ -48,6 +54,10 @@ Checks s r = answerOfChecked r ≡ with-given length (outcome s)
 -- read: the points of the curve of a number
 abbrev pub Reads : List ℕ → ℕ → Reading → Type 0
 Reads s number r = answerOfReading r ≡ with-given pointsIn (chosen number (outcome s))
+
+-- locate: where the record of the curve of a number stands
+abbrev pub Locates : List ℕ → ℕ → Location → Type 0
+Locates s number r = answerOfLocation r ≡ placed number (outcome s)
 
 -- find: the record itself, and nothing where it is refused
 abbrev pub Finds : List ℕ → ℕ → List ℕ → Type 0

@@ -4,10 +4,11 @@
 --   joined, recordsFrom   the records, step by step
 --   outcome     the first fault in sheet order with its place, or the records, each as its bytes
 --   nth, chosen curve `number`, from 1, of the records and of what `outcome` gives
+--   earlier, placed   the records before that curve's; where its own stands: the place of its first byte, and how long it is
 --   pointsIn    the points that a record holds
 --   curvesIn    the curves of a sheet, each as its points
 --   erasing     the sheet that erase is to leave
---   written     bytes over a sheet.      total   where the records end
+--   written     bytes over a sheet.      total   how long the records are together: where they end
 --   appendingAt, appendingTo, appending   the sheet that append is to leave: at a place, after the records, after all tests
 use mathlib.Core.Bool.{not}
 use mathlib.Core.List.{List, [], _∷_, _++_, map}
@@ -70,6 +71,19 @@ abbrev pub chosen : ℕ → Answer (List (List ℕ)) → Answer (List ℕ)
 chosen number (refused n p) = refused n p
 chosen number (given records) = nth number records
 
+-- how long the records are together
+abbrev pub total : List (List ℕ) → ℕ
+total [] = 0
+total (x ∷ xs) = length x + total xs
+
+abbrev pub earlier : ℕ → List (List ℕ) → List (List ℕ)
+earlier zero records = []
+earlier (suc k) records = take k records
+
+abbrev pub placed : ℕ → Answer (List (List ℕ)) → Answer (List ℕ)
+placed number (refused n p) = refused n p
+placed number (given records) = with-given (λ x. total (earlier number records) ∷ length x ∷ []) (nth number records)
+
 -- the coordinates behind the four bytes of a record's head, taken two by two
 unfoldable pub pointsIn : List ℕ → List Pair
 pointsIn bytes = paired (coordinates ((length bytes - 4) / 4) bytes 4)
@@ -83,11 +97,6 @@ erasing s = if ltb 4096 (length s) then refuse refusal.TooLong 0 else given (rep
 -- `bytes` over a sheet, from `at` on
 abbrev pub written : List ℕ → ℕ → List ℕ → List ℕ
 written s at bytes = take at s ++ (bytes ++ drop (at + length bytes) s)
-
--- where the records end: the first erased place
-abbrev pub total : List (List ℕ) → ℕ
-total [] = 0
-total (x ∷ xs) = length x + total xs
 
 unfoldable pub appendingAt : List ℕ → ℕ → Kind → List ℤ → Answer (List ℕ)
 appendingAt s end k xs =

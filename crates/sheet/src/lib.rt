@@ -1,16 +1,18 @@
 // The parameter sheet, at most 4,096 bytes of records, each a curve.
 //   check    how many curves a sheet has, or its first fault
 //   read     a curve by its number, as points
+//   locate   where a curve's record stands
 //   find     the part of the sheet that holds a curve
 //   erase    makes every byte FF
 //   append   writes one more curve
+//   cubic_numbers, quintic_numbers   a curve's coordinates, as a record holds them
 // No call asks anything of its arguments, and a call that refuses leaves the sheet as it was.
 mod numbers;
 mod steps;
 mod walks;
 mod writes;
 
-ghost use Rattle.sheet.specs.Promises.{Checks, Reads, Finds, Erases, Appends};
+ghost use Rattle.sheet.specs.Promises.{Checks, Reads, Locates, Finds, Erases, Appends};
 use crate::steps::is_kind;
 use crate::walks::Survey;
 use crate::walks::cubic_in;
@@ -31,6 +33,12 @@ pub enum Checked {
 // What `read` answers.
 pub enum Reading {
     Points(Curve),
+    Refused(Refusal, usize),
+}
+
+// What `locate` answers: the place of a record's first byte and how many bytes it has, or the refusal and its place.
+pub enum Location {
+    At { place: usize, length: usize },
     Refused(Refusal, usize),
 }
 
@@ -67,6 +75,24 @@ pub fn read(sheet: &[u8], number: usize) -> Reading
                 return Reading::Points(Curve::Cubic(cubic_in(record)));
             }
             Reading::Points(Curve::Quintic(quintic_in(record)))
+        }
+    }
+}
+
+// Where the record of curve `number`, from 1, stands.
+pub fn locate(sheet: &[u8], number: usize) -> Location
+    ensures { λ r. ⌜ Locates (now (sheet .entry)) number r ⌝ }
+{
+    match walk(sheet, number) {
+        Survey::Fault(r, place) => Location::Refused(r, place),
+        Survey::Sound(l) => {
+            let place = l.from;
+            let to = l.to;
+            if place == to {
+                return Location::Refused(Refusal::Number, 0);
+            }
+            let length = to - place;
+            Location::At { place, length }
         }
     }
 }

@@ -7,7 +7,7 @@
 --   CheckCall, ReadCall, FindCall, EraseCall, AppendCall, ReportCall                   the calls on sheets
 use mathlib.Core.Path.{_≡_}
 use mathlib.Core.Bool.{cond}
-use mathlib.Core.List.{List, [], _∷_, _++_}
+use mathlib.Core.List.{List, [], _∷_, _++_, map}
 use mathlib.Core.Logic.{_≢_, _⊎_}
 use Prim.Native.Nat.{ℕ}
 use lib.IntN.{ℤ, pos}
@@ -37,7 +37,7 @@ use Rattle.join.specs.declared.JoinAnswer.the-variants as joins
 use Rattle.join.specs.Listing.{Joined}
 use Rattle.sheet.specs.declared.Change.{Change}
 use Rattle.sheet.specs.Kinds.{numbersOf}
-use Rattle.sheet.specs.Sheets.{Answer, given, refuse, with-given, outcome, chosen, pointsIn, erasing}
+use Rattle.sheet.specs.Sheets.{Answer, given, refuse, with-given, outcome, chosen, placed, pointsIn, erasing}
 use Rattle.sheet.specs.Promises.{answerOfChange, sheetAfter, Appends}
 use Rattle.report_text.specs.declared.ReportAnswer.{ReportAnswer}
 use Rattle.report_text.specs.Reports.{Reported, answerOfReport}
@@ -113,6 +113,9 @@ CheckCall s r = r ≡ coded (with-given length (outcome s))
 
 abbrev pub ReadCall : List ℕ → ℕ → List ℤ → List ℤ → ℤ → Type 0
 ReadCall s number before after r = Hands (with-given (λ x. numbersOf (pointsIn x)) (chosen number (outcome s))) before after r
+
+abbrev pub FindCall : List ℕ → ℕ → List ℤ → List ℤ → ℤ → Type 0
+FindCall s number before after r = Hands (with-given (map pos) (placed number (outcome s))) before after r
 
 pub record EraseCall (s t : List ℕ) (r : ℤ) : Type 0 where
   pub says : r ≡ coded (nothing (erasing s))

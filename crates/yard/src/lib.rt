@@ -4,3 +4,4 @@
 mod answers;
 mod curves;
 mod numbers;
+mod sheets;
