@@ -1,9 +1,8 @@
 -- The content of N from a generator of D.
 --   generated-content      D = κ w² with w primitive and κ not 0: |κ|² is the greatest common divisor of N
 --   Reduced, reduced       D = κ w², not 0: it is so with a primitive w
---   generated-norm         D = κ w², not 0: the norm of D's greatest common divisor is that of N
---   norm-differs-not-generated      so where they differ, D is no κ w²
---   content-one            where N has the content 1, D's pairs have no common divisor but units
+--   content-norm           the content of N is the norm of D's greatest common divisor, by Gauss's lemma,
+--   content-one            so where it is 1, D's pairs have no common divisor but units
 use mathlib.Core.Path.{_≡_, refl, sym, ap, _∙_}
 use mathlib.Core.List.{List}
 use mathlib.Core.Logic.{_≢_}
@@ -12,23 +11,22 @@ use Rattle.whole.specs.Poly.{at, Greatest, scaled, square}
 use Rattle.whole.specs.Number.{wholes}
 use Rattle.whole.proofs.Integers.{*ℤ-1}
 use Rattle.whole.proofs.Linear.{linear}
-use Rattle.whole.proofs.Order.{nonneg-is}
+use Rattle.whole.proofs.Divisor.{divides-trans}
 use Rattle.whole.proofs.Wholes.{wholes-ring}
-use Rattle.poly.specs.Terms.{Throughout, Primitive}
-use Rattle.poly.proofs.Lists.{at-scaled}
-use Rattle.poly.proofs.Divisibility.{unit-of-one}
+use Rattle.poly.specs.Terms.{Primitive}
 use Rattle.poly.proofs.Gauss.{primitive-product}
-use Rattle.poly.proofs.Content.{quotients, greatest-some, primitive-greatest}
+use Rattle.poly.proofs.Content.{quotients, content, greatest-some, quotient-primitive, primitive-greatest}
 use Rattle.poly.proofs.Squares.{square-quotient, square-multiple}
-use Rattle.poly.proofs.Wholes.{wholes-domain, wholes-bezout, whole-unit, content-once}
+use Rattle.poly.proofs.Wholes.{wholes-domain, wholes-bezout, content-once}
 use Rattle.pair.specs.declared.Pair.{Pair}
 use Rattle.pair.specs.Pairs.{pairs, times, norm, one}
+use Rattle.pair.specs.Quotients.{NormOfGreatest}
 use Rattle.pair.proofs.Laws.{pairs-ring, pairs-domain, norm-times, norm-zero, norm-nonneg}
 use Rattle.pair.proofs.Euclid.{pairs-bezout}
 use Rattle.pair.proofs.Units.{unit-norm, norm-unit}
 use Rattle.curve.specs.declared.Square.{Square}
 use Rattle.curve.specs.Curves.{squaredLength}
-use Rattle.curve.specs.Verdicts.{Still, Generated, NotGenerated, SquareOf}
+use Rattle.curve.specs.Verdicts.{Still, Generated, SquareOf}
 use Rattle.curve.proofs.Lengths.{squaredLength-same, squaredLength-scaled, generated-squared}
 use Rattle.curve.proofs.Conjugates.{squaredLength-primitive}
 
@@ -63,27 +61,18 @@ reduced D g κ w h n e =
       generated = λ k. sym (j k) ∙ square-multiple pairs-ring g (r .unit) E (r .root) (r .squared) k;
     }
 
-pub generated-norm : (D : List Pair) (s : Square) (g κ : Pair) (w : List Pair) → SquareOf D s → Greatest pairs D g → (Still D → ⊥) → Generated D κ w
-    → norm g ≡ s .c
-generated-norm D s g κ w h i n e =
-    let r = reduced D g κ w i n e in
+pub content-norm : (D : List Pair) (s : Square) → SquareOf D s → (Still D → ⊥) → NormOfGreatest D (s .c)
+content-norm D s h n g i =
+    let (E, j) = quotients pairs-ring g D (i .divides) in
+    let g-some : g ≢ pairs .none = greatest-some pairs-ring i n in
     content-once (norm-nonneg g) (omega (linear, h .positive))
-    (rw (r .factor-norm) at (generated-content D (r .factor) (r .root) (r .factor-some) (r .root-primitive) (r .generated)))
+    (primitive-greatest wholes-ring wholes-bezout wholes-domain (squaredLength D) (squaredLength E) (norm g) (λ z. g-some (norm-zero g z))
+    (squaredLength-primitive E (quotient-primitive pairs-ring pairs-domain E g-some i j))
+    (λ k. sym (squaredLength-scaled g E k) ∙ squaredLength-same (scaled pairs g E) D j k))
     (h .content)
 
-pub norm-differs-not-generated : (D : List Pair) (s : Square) (g : Pair) → SquareOf D s → Greatest pairs D g → (Still D → ⊥) → norm g ≢ s .c → NotGenerated D
-norm-differs-not-generated D s g h i n d κ w e = d (generated-norm D s g κ w h i n e)
-
-pub content-one : (D : List Pair) → Greatest wholes (squaredLength D) (pos 1) → Greatest pairs D one
-content-one D h = record { divides = λ k. norm-unit one refl (at pairs D k); greatest = λ d u. norm-unit d (unit d u) one }
-  where
-    -- D = d E gives N = |d|² |E|²
-    divides : (d : Pair) → Throughout pairs d (at pairs D) → Throughout wholes (norm d) (at wholes (squaredLength D))
-    divides d u k =
-        let (E, e) = quotients pairs-ring d D u in record {
-          factor = at wholes (squaredLength E) k;
-          is = sym (at-scaled wholes-ring (norm d) (squaredLength E) k) ∙ sym (squaredLength-scaled d E k) ∙ squaredLength-same (scaled pairs d E) D e k;
-        }
-
-    unit : (d : Pair) → Throughout pairs d (at pairs D) → norm d ≡ pos 1
-    unit d u = nonneg-is (norm-nonneg d) ∙ ap pos (whole-unit (unit-of-one wholes-ring (h .greatest (norm d) (divides d u))))
+pub content-one : (D : List Pair) (s : Square) → SquareOf D s → (Still D → ⊥) → s .c ≡ pos 1 → Greatest pairs D one
+content-one D s h n e =
+    let (g, i) = content pairs-ring pairs-bezout D in
+    let unit = norm-unit g (content-norm D s h n g i ∙ e) in
+    record { divides = λ k. norm-unit one refl (at pairs D k); greatest = λ d u. divides-trans pairs-ring (i .greatest d u) (unit one) }

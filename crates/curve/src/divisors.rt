@@ -6,16 +6,16 @@ use pair::quotient;
 use root::pairs::Five;
 ghost use mathlib.Core.Path.{_≡_};
 ghost use mathlib.Core.Logic.{_≢_};
-ghost use Rattle.whole.specs.Number.{wholes, Tells};
+ghost use Rattle.whole.specs.Number.{Tells};
 ghost use Rattle.whole.specs.Poly.{Greatest};
 ghost use Rattle.pair.specs.Pairs.{pairs, times, one, PartsWithin, AllWithin};
 ghost use Rattle.root.specs.Pairs.{five};
-ghost use Rattle.curve.specs.Curves.{squaredLength};
+ghost use Rattle.curve.specs.Verdicts.{Still, SquareOf};
 ghost use Rattle.curve.specs.Steps.{PairShares, PairsDivided};
 
-// The greatest common divisor of D's pairs. Its norm divides the content c of N.
+// The greatest common divisor of D's pairs. Its norm is the content c of N.
 pub(crate) fn common(e: Five, s: Square) -> Pair
-    requires { ⌜ AllWithin 1280000 (five e) × Greatest wholes (squaredLength (five e)) (s .c) ⌝ }
+    requires { ⌜ AllWithin 1280000 (five e) × (Still (five e) → ⊥) × SquareOf (five e) s ⌝ }
     ensures { λ g. ⌜ Greatest pairs (five e) g ⌝ }
 {
     let c = s.c;
@@ -27,7 +27,7 @@ pub(crate) fn common(e: Five, s: Square) -> Pair
     let e2 = e.e2;
     let e3 = e.e3;
     let e4 = e.e4;
-    pair::gcd_all([e0, e1, e2, e3, e4])
+    pair::gcd_all([e0, e1, e2, e3, e4], c)
 }
 
 // a / g, which is a pair.

@@ -7,22 +7,16 @@ use crate::divisors::pairs_divided;
 use pair::Pair;
 use pair::is_zero;
 use pair::negative;
-use pair::norm;
 use pair::turned;
-use root::Quartic;
 use root::pairs::Five;
 use root::pairs::PairRoot;
 use root::pairs::Quadratic;
 use root::pairs::pair_root;
-use whole::size;
 ghost use mathlib.Core.Path.{_≡_};
 ghost use mathlib.Core.Logic.{_≢_};
-ghost use Prim.Native.Nat.{_≤_};
-ghost use lib.IntN.{natAbs};
-ghost use Rattle.whole.specs.Number.{wholes, FirstPositive, Tells};
-ghost use Rattle.whole.specs.Poly.{at, Same, Greatest, scaled};
+ghost use Rattle.whole.specs.Number.{FirstPositive, Tells};
+ghost use Rattle.whole.specs.Poly.{Same, Greatest, scaled};
 ghost use Rattle.pair.specs.Pairs.{pairs, imaginary, PartsWithin, AllWithin};
-ghost use Rattle.root.specs.Roots.{quartic};
 ghost use Rattle.root.specs.Pairs.{five, quadratic, LeadKept};
 ghost use Rattle.curve.specs.Verdicts.{Holds};
 ghost use Rattle.curve.specs.Steps.{Squarely, TurnedRoot, Normalised};
@@ -125,35 +119,14 @@ fn normalised(k: Pair, w: Quadratic, s: Square) -> Preimage
     }
 }
 
-// The size of q's coefficient at the power l.
-fn size_at(q: Quartic, l: u64) -> u64
-    requires { ⌜ l ≤ 4 ⌝ }
-    ensures { λ r. ⌜ r ≡ natAbs (at wholes (quartic q) l) ⌝ }
-{
-    if l == 4 {
-        return size(q.q4);
-    }
-    if l == 3 {
-        return size(q.q3);
-    }
-    if l == 2 {
-        return size(q.q2);
-    }
-    if l == 1 {
-        return size(q.q1);
-    }
-    size(q.q0)
-}
-
-// The verdict on D = g f, where N is a square and g holds all that the pairs of D have in common: whether f or i f is a square. The
-// highest coefficients of q and f have the size n.
-fn rooted(e: Five, l: u64, s: Square, g: Pair, n: u64) -> Verdict
+// The verdict on D = g f, where N is a square and g holds all that the pairs of D have in common: whether f or i f is a square.
+fn rooted(e: Five, l: u64, s: Square, g: Pair) -> Verdict
     requires { ⌜ Squarely (five e) l s × Greatest pairs (five e) g × (g ≢ pairs .none) ⌝ }
     ensures { λ v. ⌜ Holds (five e) v ⌝ }
 {
     let f = pairs_divided(e, g);
-    let PairRoot::Root(w) = pair_root(f, l, n) else {
-        let PairRoot::Root(v) = pair_root(turned_five(f), l, n) else {
+    let PairRoot::Root(w) = pair_root(f, l) else {
+        let PairRoot::Root(v) = pair_root(turned_five(f), l) else {
             return Verdict::Ph(s);
         };
         let k = negative(turned(g));
@@ -167,10 +140,5 @@ pub(crate) fn generator(e: Five, l: u64, s: Square) -> Verdict
     requires { ⌜ Squarely (five e) l s ⌝ }
     ensures { λ v. ⌜ Holds (five e) v ⌝ }
 {
-    let c = s.c;
-    let g = common(e, s);
-    if norm(g) != c {
-        return Verdict::Ph(s);
-    }
-    rooted(e, l, s, g, size_at(s.q, l))
+    rooted(e, l, s, common(e, s))
 }

@@ -1,9 +1,12 @@
--- What the quotients of pairs promise.
+-- What the quotients and the common divisors of pairs promise.
 --   IsPairQuotient       the exact quotient a / b, or that there is none
 --   NearestPair a b q    each part of q is the whole number nearest to that part of a / b, which is a conj(b) over |b|²; halves go down
+--   NormOfGreatest ps c  c is the norm of their greatest common divisors
 --   Rest a b r           what a nearest quotient leaves over
 use mathlib.Core.Path.{_≡_}
-use Rattle.whole.specs.Poly.{Divides}
+use mathlib.Core.List.{List}
+use lib.IntN.{ℤ}
+use Rattle.whole.specs.Poly.{Divides, Greatest}
 use Rattle.whole.specs.Quotients.{Nearest}
 use Rattle.pair.specs.declared.Pair.{Pair}
 use Rattle.pair.specs.declared.PairQuotient.{PairQuotient}
@@ -17,6 +20,9 @@ IsPairQuotient a b None = Divides pairs b a → ⊥
 pub record NearestPair (a b q : Pair) : Type 0 where
   pub re : Nearest (times a (conjugate b) .re) (norm b) (q .re)
   pub im : Nearest (times a (conjugate b) .im) (norm b) (q .im)
+
+abbrev pub NormOfGreatest : List Pair → ℤ → Type 0
+NormOfGreatest ps c = (g : Pair) → Greatest pairs ps g → norm g ≡ c
 
 pub record Rest (a b r : Pair) : Type 0 where
   pub quotient : Pair

@@ -6,12 +6,12 @@ ghost use mathlib.Core.List.{_∷_, []};
 ghost use mathlib.Core.Logic.{_≢_};
 ghost use Prim.Native.Nat.{_*_, _^_};
 ghost use lib.IntN.{pos, natAbs};
-ghost use lib.Signed.{_≤ℤ_};
+ghost use lib.Signed.{_≤ℤ_, _<ℤ_};
 ghost use Rattle.whole.specs.Number.{Tells, Within};
 ghost use Rattle.whole.specs.Poly.{Greatest};
 ghost use Rattle.pair.specs.Pairs.{pairs, PartsWithin, AllWithin};
 ghost use Rattle.pair.specs.Pairs.{plus, minus, negative, times, multiple, conjugate, norm, imaginary};
-ghost use Rattle.pair.specs.Quotients.{IsPairQuotient, NearestPair, Rest};
+ghost use Rattle.pair.specs.Quotients.{IsPairQuotient, NearestPair, NormOfGreatest, Rest};
 ghost use Rattle.pair.specs.Roots.{HalfRoot, Candidate, IsPairRoot};
 
 pub struct Pair {
@@ -189,14 +189,17 @@ pub fn gcd(a: Pair, b: Pair) -> Pair
     x
 }
 
-// The greatest common divisor of five pairs, 0 where there is none but zeros.
-pub fn gcd_all(ps: [Pair; 5]) -> Pair
-    requires { ⌜ AllWithin (2 ^ 30) ps ⌝ }
+// The greatest common divisor of five pairs, whose norm is c: that of some of them, if it has this norm, is that of all.
+pub fn gcd_all(ps: [Pair; 5], c: i64) -> Pair
+    requires { ⌜ AllWithin (2 ^ 30) ps × (pos 0 <ℤ c) × NormOfGreatest ps c ⌝ }
     ensures { λ g. ⌜ Greatest pairs ps g ⌝ }
 {
     let mut g = Pair { re: 0, im: 0 };
     let mut i: usize = 0;
     while i < 5 {
+        if norm(g) == c {
+            return g;
+        }
         let p = ps[i];
         g = gcd(p, g);
         i += 1;
@@ -260,20 +263,6 @@ pub fn root(z: Pair) -> PairRoot
         whole::Root::Square(n) => kept(z, candidate(z, n)),
         whole::Root::NotSquare => PairRoot::None,
     }
-}
-
-// The same where |z| may be at hand: it is n, if n² is |z|².
-pub fn root_by(z: Pair, n: u64) -> PairRoot
-    requires { ⌜ PartsWithin (2 ^ 30) z ⌝ }
-    ensures { λ r. ⌜ IsPairRoot z r ⌝ }
-{
-    if n >= 4294967296 {
-        return root(z);
-    }
-    if n * n != norm(z) as u64 {
-        return root(z);
-    }
-    kept(z, candidate(z, n))
 }
 
 // Whether a pair is 0.

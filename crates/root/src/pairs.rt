@@ -114,13 +114,13 @@ fn candidate(e: Five, s: Pair) -> Quadratic
     Quadratic { b0, b1, b2: s }
 }
 
-// The root of a polynomial with a coefficient at the fourth power, whose size n may be at hand.
-fn quadratic_root(e: Five, n: u64) -> PairRoot
+// The root of a polynomial with a coefficient at the fourth power.
+fn quadratic_root(e: Five) -> PairRoot
     requires { ⌜ AllWithin 2000000 (five e) × Top pairs (five e) 4 ⌝ }
     ensures { λ r. ⌜ IsPairRoot (five e) r ⌝ }
 {
     let e4 = e.e4;
-    let pair::PairRoot::Root(s) = pair::root_by(e4, n) else {
+    let pair::PairRoot::Root(s) = pair::root(e4) else {
         return PairRoot::NoRoot;
     };
     let w = candidate(e, s);
@@ -163,19 +163,18 @@ fn lowered(w: Quadratic) -> Quadratic
     }
 }
 
-// The root of a polynomial whose highest power is l, with a coefficient whose size n may be at hand: that of a square is even. Below the
-// fourth power it is that of t² e, divided by t.
-pub fn pair_root(e: Five, l: u64, n: u64) -> PairRoot
+// The root of a polynomial whose highest power is l: that of a square is even. Below the fourth power it is that of t² e, divided by t.
+pub fn pair_root(e: Five, l: u64) -> PairRoot
     requires { ⌜ AllWithin 2000000 (five e) × Top pairs (five e) l × (l ≤ 4) ⌝ }
     ensures { λ r. ⌜ IsPairRoot (five e) r ⌝ }
 {
     if l == 4 {
-        return quadratic_root(e, n);
+        return quadratic_root(e);
     }
     if l % 2 == 1 {
         return PairRoot::NoRoot;
     }
-    let PairRoot::Root(w) = pair_root(raised(e), l + 2, n) else {
+    let PairRoot::Root(w) = pair_root(raised(e), l + 2) else {
         return PairRoot::NoRoot;
     };
     PairRoot::Root(lowered(w))

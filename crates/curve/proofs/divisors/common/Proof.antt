@@ -1,17 +1,14 @@
--- `divisors::common` meets its contract: where c is 1, nothing but units divides D.
-use mathlib.Core.Path.{subst}
+-- `divisors::common` meets its contract: c is the norm of what it finds.
 use borrow.Author.Needs.{needs}
 use lib.Dec.{lit≤}
 use mir.Facts.{sfits-lit}
 use mir.Syntax.{w64}
 use mir.Val.{SFits}
-use Rattle.whole.specs.Poly.{Greatest}
-use Rattle.whole.specs.Number.{wholes}
+use mir.ValLaws.{toZ-ofZ}
 use Rattle.whole.proofs.Machine.{same-bits}
 use Rattle.pair.proofs.Parts.{wider}
 use Rattle.root.specs.Pairs.{five}
-use Rattle.curve.specs.Curves.{squaredLength}
-use Rattle.curve.proofs.Norms.{content-one}
+use Rattle.curve.proofs.Norms.{content-norm, content-one}
 use Rattle.curve.proofs.divisors.common.Statement.{statement}
 use Rattle.curve.proofs.divisors.common.Tie as tie
 
@@ -21,11 +18,14 @@ c-fits c = search needs
 returns : tie.Need-returns
 returns c =
     let s = c .before .before in
-    content-one (five (s .args .e))
-    (subst (Greatest wholes (squaredLength (five (s .args .e)))) (same-bits (c-fits (c .before)) (sfits-lit tt) (c .if1 .taken)) (s .pre .1))
+    content-one (five (s .args .e)) (s .args .s) (s .pre .2) (s .pre .1) (same-bits (c-fits (c .before)) (sfits-lit tt) (c .if1 .taken))
 
 gcd-all-requires : tie.Need-gcd-all-requires
-gcd-all-requires c κs k = wider (lit≤ tt) (c .before .before .before .before .before .before .before .pre .0 k)
+gcd-all-requires c κs =
+    let t = c .before .before .before .before .before .before in
+    let s = t .before in
+    rw (toZ-ofZ w64 (s .args .s .c) (c-fits t))
+    (λ k. wider (lit≤ tt) (s .pre .0 k), s .pre .2 .positive, content-norm (five (s .args .e)) (s .args .s) (s .pre .2) (s .pre .1))
 
 returns-2 : tie.Need-returns-2
 returns-2 c = c .gcd-all .ensures

@@ -20,8 +20,8 @@ use Rattle.root.proofs.Quadratics.{quadratic-above}
 use Rattle.root.proofs.pairs.quadratic_root.Statement.{statement}
 use Rattle.root.proofs.pairs.quadratic_root.Tie as tie
 
-root-by-requires : tie.Need-root-by-requires
-root-by-requires c κs = wider (lit≤ tt) (c .before .pre .0 4)
+root-requires : tie.Need-root-requires
+root-requires c κs = wider (lit≤ tt) (c .before .pre .0 4)
 
 enum-known-s : tie.Need-enum-known-s
 enum-known-s c = search needs
@@ -32,7 +32,7 @@ enum-told c = search needs
 returns : tie.Need-returns
 returns c x b h =
     let r = c .before .before in
-    subst (IsPairRoot _) (c .enum-told .given .1) (r .root-by .ensures) (at pairs x 2)
+    subst (IsPairRoot _) (c .enum-told .given .1) (r .root .ensures) (at pairs x 2)
     (root-lead pairs-ring pairs-domain pair-zero? 2 (r .before .before .pre .1) x h)
 
 -- the root of the highest coefficient
@@ -47,7 +47,7 @@ module _ (c : tie.After-known-told) where
   s = c .before .s .given .0 .0
 
   root : KeptRoot (e .e4) s
-  root = subst (IsPairRoot _) (c .before .s .given .1) (c .before .before .before .root-by .ensures)
+  root = subst (IsPairRoot _) (c .before .s .given .1) (c .before .before .before .root .ensures)
 
   some : s ≢ pairs .none
   some z = o .pre .1 .lead (sym (root .squared) ∙ ap (λ p. times p p) z)
@@ -84,7 +84,7 @@ pub quadratic-root-spec : {M : Type 1} → statement M
 quadratic-root-spec =
     tie.close
     (tie.spec
-    root-by-requires
+    root-requires
     enum-known-s
     enum-told
     returns
