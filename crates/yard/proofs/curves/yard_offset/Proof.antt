@@ -1,13 +1,24 @@
 -- `curves::yard_offset` meets its contract.
 use borrow.Author.Needs.{needs}
-use mathlib.Core.Path.{refl}
+use mathlib.Core.Path.{refl, subst}
+use mathlib.Core.List.{List}
+use lib.IntN.{ℤ}
 use mir.Syntax.{w64}
+use mir.Val.{SFits, toZ, ofZ}
 use mir.ValLaws.{toZ-ofZ}
+use Rattle.curve.specs.declared.Curve.{Curve}
+use Rattle.offset.specs.declared.OffsetAnswer.{OffsetAnswer}
+use Rattle.offset.specs.Offsets.{OffsetBy}
 use Rattle.sheet.proofs.Signs.{settled}
 use Rattle.yard.proofs.Areas.{hands-same}
 use Rattle.yard.proofs.Handing.{wrong-count, right-count}
 use Rattle.yard.proofs.curves.yard_offset.Statement.{statement}
 use Rattle.yard.proofs.curves.yard_offset.Tie as tie
+
+-- the offset by the distance that was given, from that by the machine's number for it
+stored-distance : (h : ℤ) → SFits w64 h → {c : Curve} {before after : List ℤ} {a : OffsetAnswer} → OffsetBy c (toZ w64 (ofZ w64 h)) before after a
+    → OffsetBy c h before after a
+stored-distance h f {c} {before} {after} {a} o = subst (λ (z : ℤ). OffsetBy c z before after a) (toZ-ofZ w64 h f) o
 
 curve-in-requires : tie.Need-curve-in-requires
 curve-in-requires c κs = search needs
@@ -44,7 +55,7 @@ returns-2 c =
     let s = k .before .before .before in
     let r = c .before .before .offset in
     right-count (k .before .before .curve-in .ensures) (k .curve .given .0 .0) (k .curve .given .1)
-    (r .result, rw (toZ-ofZ w64 (s .args .h) (s .fits .h)) at (r .ensures), settled (c .offset-count .ok) (c .offset-count .ensures))
+    (r .result, stored-distance (s .args .h) (s .fits .h) (r .ensures), settled (c .offset-count .ok) (c .offset-count .ensures))
 
 pub yard-offset-spec : {M : Type 1} → statement M
 yard-offset-spec =
