@@ -22,6 +22,7 @@ use measure::InflectionAnswer;
 use measure::LengthAnswer;
 use offset::OffsetAnswer;
 
+// Of every verdict there are 15 numbers: what it lacks is 0.
 fn ph_numbers(s: Square) -> [i64; 15]
     ensures { λ r. ⌜ r ≡ pos 2 ∷ s .c ∷ quartic (s .q) ++ replicate 8 (pos 0) ⌝ }
 {
