@@ -7,8 +7,8 @@
 --   NormsSquare, EndsSquare    |a|² |z|² is a square; so it is of the first and the last leg of these points
 --   IsHighest                  the highest power of a polynomial, or that it is 0
 --   Leads, Content             a polynomial is not 0; the greatest common divisor of its coefficients
---   Shares, Divided            c divides n; a polynomial divided by c
---   PairShares, PairsDivided   the same for pairs
+--   Divided                    a polynomial divided by c
+--   PairShares, PairsDivided   a pair, and a polynomial of pairs, that g divides
 --   TurnedRoot w v             v is i w or −i w, with the sign of the rule
 --   Normalised κ w p           p is κ w², with the signs of the rules
 use mathlib.Core.Path.{_≡_}
@@ -82,12 +82,6 @@ pub record Content (p : List ℤ) (c : ℤ) : Type 0 where
   pub positive : pos 0 <ℤ c
   pub small : Within 10000000000000 c
   pub greatest : Greatest wholes p c
-
-pub record Shares (n c : ℤ) : Type 0 where
-  pub whole : Divides wholes c n
-  pub positive : pos 0 <ℤ c
-  pub n-small : Within 10000000000000 n
-  pub c-small : Within 10000000000000 c
 
 pub record Divided (N : List ℤ) (c : ℤ) (M : List ℤ) : Type 0 where
   pub multiple : Same wholes (scaled wholes c M) N

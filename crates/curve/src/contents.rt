@@ -3,14 +3,14 @@ use crate::Legs;
 use root::Nine;
 use root::square;
 use whole::gcd_all;
+use whole::share;
 ghost use mathlib.Core.Path.{_≡_};
-ghost use lib.IntN.{_*ℤ_};
-ghost use Rattle.whole.specs.Number.{Within, wholes};
+ghost use Rattle.whole.specs.Number.{wholes};
 ghost use Rattle.whole.specs.Poly.{Same, sum};
 ghost use Rattle.root.specs.Roots.{nine, quartic, Sized};
 ghost use Rattle.root.specs.Search.{Each};
 ghost use Rattle.curve.specs.Curves.{squaredLength};
-ghost use Rattle.curve.specs.Steps.{Leads, Content, Shares, Divided, Slight, polynomial};
+ghost use Rattle.curve.specs.Steps.{Leads, Content, Divided, Slight, polynomial};
 
 fn added(a: Nine, b: Nine) -> Nine
     requires { ⌜ Each wholes Sized (nine a) × Each wholes Sized (nine b) ⌝ }
@@ -55,14 +55,6 @@ pub(crate) fn content(n: Nine) -> i64
 {
     let numbers = [n.m0, n.m1, n.m2, n.m3, n.m4, n.m5, n.m6, n.m7, n.m8];
     gcd_all(&numbers) as i64
-}
-
-// n / c, which is whole.
-pub fn share(n: i64, c: i64) -> i64
-    requires { ⌜ Shares n c ⌝ }
-    ensures { λ r. ⌜ (c *ℤ r ≡ n) × Within 10000000000000 r ⌝ }
-{
-    n / c
 }
 
 // A polynomial divided by its content.

@@ -8,7 +8,6 @@ mod ranges;
 
 use contents::content;
 use contents::divided;
-pub use contents::share;
 use contents::squared_length;
 use drawing::degree;
 pub use drawing::drawn;

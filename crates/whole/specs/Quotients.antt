@@ -1,6 +1,7 @@
 -- What the quotients promise.
 --   Divisible n d    the machine has an answer: d is not 0, and not the least number by −1
 --   IsQuotient       the exact quotient, or that there is none
+--   Shares n d       d divides n and is positive, and both are within the bound of a curve's numbers
 --   Nearest n d q    q is the whole number nearest to n / d; of two that are equally near, the lower
 use mathlib.Core.Path.{_≡_}
 use mathlib.Core.Logic.{_≢_}
@@ -8,7 +9,7 @@ use Prim.Native.Nat.{_-_, _^_}
 use lib.IntN.{ℤ, pos, negsuc, negℤ, _-ℤ_, _*ℤ_}
 use lib.Signed.{_≤ℤ_, _<ℤ_}
 use Rattle.whole.specs.Poly.{Divides}
-use Rattle.whole.specs.Number.{wholes}
+use Rattle.whole.specs.Number.{wholes, Within}
 use Rattle.whole.specs.declared.Exact.{Exact}
 use Rattle.whole.specs.declared.Exact.the-variants.{Whole, Fraction}
 
@@ -19,6 +20,12 @@ pub record Divisible (n d : ℤ) : Type 0 where
 abbrev pub IsQuotient : ℤ → ℤ → Exact → Type 0
 IsQuotient n d (Whole q) = d *ℤ q ≡ n
 IsQuotient n d Fraction = Divides wholes d n → ⊥
+
+pub record Shares (n d : ℤ) : Type 0 where
+  pub whole : Divides wholes d n
+  pub positive : pos 0 <ℤ d
+  pub n-small : Within 10000000000000 n
+  pub d-small : Within 10000000000000 d
 
 -- twice what is left over lies above −d, and not above d
 pub record Nearest (n d q : ℤ) : Type 0 where

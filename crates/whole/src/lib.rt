@@ -2,12 +2,12 @@
 ghost use mathlib.Core.Path.{_≡_};
 ghost use mathlib.Core.List.{_∷_, []};
 ghost use mathlib.Core.Logic.{_≢_};
-ghost use lib.IntN.{pos, natAbs};
+ghost use lib.IntN.{pos, natAbs, _*ℤ_};
 ghost use lib.Signed.{_<ℤ_};
 ghost use Rattle.whole.specs.Area.{Cleared};
-ghost use Rattle.whole.specs.Number.{wholes};
+ghost use Rattle.whole.specs.Number.{wholes, Within};
 ghost use Rattle.whole.specs.Poly.{Greatest};
-ghost use Rattle.whole.specs.Quotients.{Divisible, IsQuotient, Nearest};
+ghost use Rattle.whole.specs.Quotients.{Divisible, IsQuotient, Shares, Nearest};
 ghost use Rattle.whole.specs.Roots.{Above, Passes, FloorRoot, IsRoot};
 
 // A quotient that has to be whole.
@@ -32,6 +32,14 @@ pub fn quotient(n: i64, d: i64) -> Exact
     } else {
         Exact::Fraction
     }
+}
+
+// n / d, which is whole.
+pub fn share(n: i64, d: i64) -> i64
+    requires { ⌜ Shares n d ⌝ }
+    ensures { λ r. ⌜ (d *ℤ r ≡ n) × Within 10000000000000 r ⌝ }
+{
+    n / d
 }
 
 // The whole number nearest to n / d.

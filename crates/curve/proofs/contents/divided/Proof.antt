@@ -6,6 +6,7 @@ use lib.IntN.{ℤ, pos, _*ℤ_, *ℤ-zero, *ℤ-comm}
 use mir.Facts.{sfits-lit}
 use Rattle.whole.specs.Poly.{at}
 use Rattle.whole.specs.Number.{wholes, Within}
+use Rattle.whole.specs.Quotients.{Shares}
 use Rattle.whole.proofs.Integers.{*ℤ-1}
 use Rattle.whole.proofs.Bound.{read-back}
 use Rattle.whole.proofs.Machine.{same-bits}
@@ -13,7 +14,7 @@ use Rattle.whole.proofs.Wholes.{wholes-ring}
 use Rattle.poly.proofs.Lists.{at-scaled}
 use Rattle.root.specs.declared.Nine.{Nine}
 use Rattle.root.specs.Roots.{nine}
-use Rattle.curve.specs.Steps.{Shares, Divided}
+use Rattle.curve.specs.Steps.{Divided}
 use Rattle.curve.proofs.contents.divided.Statement.{statement}
 use Rattle.curve.proofs.contents.divided.Tie as tie
 
@@ -41,7 +42,7 @@ from-nine n c {r0} {r1} {r2} {r3} {r4} {r5} {r6} {r7} {r8} h0 h1 h2 h3 h4 h5 h6 
 
 module _ (s : tie.Start) where
   shares : (k : ℕ) → Shares (at wholes (nine (s .args .n)) k) (s .args .c)
-  shares k = record { whole = s .pre .1 .greatest .divides k; positive = s .pre .1 .positive; n-small = s .pre .0 k; c-small = s .pre .1 .small }
+  shares k = record { whole = s .pre .1 .greatest .divides k; positive = s .pre .1 .positive; n-small = s .pre .0 k; d-small = s .pre .1 .small }
 
 returns : tie.Need-returns
 returns c =

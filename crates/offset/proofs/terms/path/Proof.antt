@@ -9,12 +9,12 @@ use mir.Val.{SFits, toZ, ofZ}
 use mir.ValLaws.{toZ-ofZ}
 use Rattle.whole.specs.Poly.{at, Divides}
 use Rattle.whole.specs.Number.{wholes, Within}
+use Rattle.whole.specs.Quotients.{Shares}
 use Rattle.whole.proofs.Integers.{*ℤ-1}
 use Rattle.whole.proofs.Linear.{linear}
 use Rattle.whole.proofs.Wholes.{readℤ}
 use Rattle.whole.proofs.Bound.{done, _▸_, bounds, fits, kept, within, read-back}
 use Rattle.root.specs.Roots.{quartic}
-use Rattle.curve.specs.Steps.{Shares}
 use Rattle.offset.specs.Steps.{IsPath}
 use Rattle.offset.proofs.terms.path.Statement.{statement}
 use Rattle.offset.proofs.terms.path.Tie as tie
@@ -51,7 +51,7 @@ module _ (c : tie.After-struct-told5) where
     whole = subst (Divides wholes (pos (suc k))) (sym (times-n-is k)) (o .pre .whole k);
     positive = omega linear;
     n-small = subst (Within 10000000000000) (sym (times-n-is k)) (product-within (d k) n);
-    c-small = record { size = omega arith };
+    d-small = record { size = omega arith };
   }
 
   -- what `share` answers
