@@ -8,9 +8,9 @@ use Prim.Native.Nat.{ℕ, _+_}
 use lib.IntN.{pos}
 use Rattle.refusal.specs.Table.{First}
 use Rattle.pair.specs.declared.Pair.{Pair}
-use Rattle.pair.specs.declared.PairQuotient.{PairQuotient}
-use Rattle.pair.specs.declared.PairQuotient.the-variants.{Whole, None}
 use Rattle.pair.specs.Pairs.{plus, multiple, PartsWithin}
+use Rattle.divisor.specs.declared.PairQuotient.{PairQuotient}
+use Rattle.divisor.specs.declared.PairQuotient.the-variants.{Whole, None}
 use Rattle.curve.specs.Promise.{out-of-range}
 use Rattle.build.specs.declared.BuildAnswer.{BuildAnswer}
 use Rattle.build.specs.Builds.{NoThird, numberOfBuilt, Gives}

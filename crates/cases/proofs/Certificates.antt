@@ -20,8 +20,8 @@ use Rattle.poly.proofs.Divisibility.{unit-divisor}
 use Rattle.pair.specs.declared.Pair.{Pair}
 use Rattle.pair.specs.Pairs.{pairs, times, norm}
 use Rattle.pair.proofs.Laws.{pairs-ring, norm-times, norm-some}
-use Rattle.pair.proofs.Units.{norm-unit}
-use Rattle.pair.proofs.Roots.{first-some}
+use Rattle.divisor.proofs.Units.{norm-unit}
+use Rattle.divisor.proofs.Roots.{first-some}
 use Rattle.root.specs.Search.{Lead}
 use Rattle.root.specs.Roots.{quartic, LeadPositive}
 use Rattle.root.specs.Pairs.{quadratic, LeadKept}

@@ -19,7 +19,7 @@ use Rattle.pair.specs.declared.Pair.{Pair}
 use Rattle.pair.specs.Pairs.{pair, pairs, times, conjugate}
 use Rattle.pair.proofs.Parts.{pair-equal}
 use Rattle.pair.proofs.Laws.{pairs-ring, number-times}
-use Rattle.pair.proofs.Euclid.{pairs-bezout}
+use Rattle.divisor.proofs.Euclid.{pairs-bezout}
 use Rattle.curve.specs.Curves.{squaredLength}
 use Rattle.curve.proofs.Lengths.{re-of, im-of, re-conv, im-conv, at-squaredLength}
 

@@ -11,7 +11,7 @@ use Rattle.poly.proofs.Content.{primitive-scaled}
 use Rattle.pair.specs.declared.Pair.{Pair}
 use Rattle.pair.specs.Pairs.{pair, pairs, norm, imaginary, negative}
 use Rattle.pair.proofs.Laws.{pairs-ring}
-use Rattle.pair.proofs.Units.{FourUnits, plus-one, minus-one, plus-i, minus-i, unit-norm, norm-unit, unit-is}
+use Rattle.divisor.proofs.Units.{FourUnits, plus-one, minus-one, plus-i, minus-i, unit-norm, norm-unit, unit-is}
 use Rattle.curve.specs.Verdicts.{Coprime}
 
 pub by-unit : (P : Pair → Type 0) → P (pair (pos 1) (pos 0)) → P (pair (negsuc 0) (pos 0)) → P imaginary → P (negative imaginary)

@@ -20,8 +20,8 @@ use Rattle.pair.specs.declared.Pair.{Pair}
 use Rattle.pair.specs.Pairs.{pair, pairs, times, negative, norm, imaginary, AllWithin}
 use Rattle.pair.proofs.Parts.{turned-parts}
 use Rattle.pair.proofs.Laws.{pairs-ring, pairs-domain, negative-twice}
-use Rattle.pair.proofs.Euclid.{pairs-bezout}
-use Rattle.pair.proofs.Units.{norm-unit}
+use Rattle.divisor.proofs.Euclid.{pairs-bezout}
+use Rattle.divisor.proofs.Units.{norm-unit}
 use Rattle.curve.specs.Verdicts.{Generated, NotGenerated, Coprime}
 use Rattle.curve.proofs.Coprime.{by-unit, primitive-coprime}
 

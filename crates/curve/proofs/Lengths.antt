@@ -40,7 +40,7 @@ use Rattle.poly.proofs.Wholes.{whole-zero?, wholes-domain}
 use Rattle.pair.specs.declared.Pair.{Pair}
 use Rattle.pair.specs.Pairs.{pair, pairs, norm}
 use Rattle.pair.proofs.Laws.{pairs-ring, norm-zero, norm-some}
-use Rattle.pair.proofs.Divisors.{pair-zero?}
+use Rattle.divisor.proofs.Divisors.{pair-zero?}
 use Rattle.root.specs.Roots.{LeadPositive}
 use Rattle.curve.specs.Curves.{reals, imaginaries, squaredLength}
 use Rattle.curve.specs.Verdicts.{Squared, NotSquared, Generated, Still}

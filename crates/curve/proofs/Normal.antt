@@ -18,9 +18,9 @@ use Rattle.poly.proofs.Wholes.{whole-zero?, positive-content, whole-square}
 use Rattle.pair.specs.declared.Pair.{Pair}
 use Rattle.pair.specs.Pairs.{pair, pairs, negative, imaginary}
 use Rattle.pair.proofs.Laws.{pairs-ring, pairs-domain}
-use Rattle.pair.proofs.Divisors.{pair-zero?}
-use Rattle.pair.proofs.Euclid.{pairs-bezout}
-use Rattle.pair.proofs.Roots.{first-some, first-found}
+use Rattle.divisor.proofs.Divisors.{pair-zero?}
+use Rattle.divisor.proofs.Euclid.{pairs-bezout}
+use Rattle.divisor.proofs.Roots.{first-some, first-found}
 use Rattle.root.specs.declared.Quartic.{Quartic}
 use Rattle.root.specs.Pairs.{quadratic, LeadKept}
 use Rattle.root.specs.declared.pairs.Quadratic.{Quadratic}

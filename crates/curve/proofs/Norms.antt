@@ -20,10 +20,10 @@ use Rattle.poly.proofs.Squares.{square-quotient, square-multiple}
 use Rattle.poly.proofs.Wholes.{wholes-domain, wholes-bezout, content-once}
 use Rattle.pair.specs.declared.Pair.{Pair}
 use Rattle.pair.specs.Pairs.{pairs, times, norm, one}
-use Rattle.pair.specs.Quotients.{NormOfGreatest}
 use Rattle.pair.proofs.Laws.{pairs-ring, pairs-domain, norm-times, norm-zero, norm-nonneg}
-use Rattle.pair.proofs.Euclid.{pairs-bezout}
-use Rattle.pair.proofs.Units.{unit-norm, norm-unit}
+use Rattle.divisor.specs.Quotients.{NormOfGreatest}
+use Rattle.divisor.proofs.Euclid.{pairs-bezout}
+use Rattle.divisor.proofs.Units.{unit-norm, norm-unit}
 use Rattle.curve.specs.declared.Square.{Square}
 use Rattle.curve.specs.Curves.{squaredLength}
 use Rattle.curve.specs.Verdicts.{Still, Generated, SquareOf}

@@ -27,9 +27,9 @@ use Rattle.poly.proofs.Wholes.{wholes-domain, content-once}
 use Rattle.pair.specs.declared.Pair.{Pair}
 use Rattle.pair.specs.Pairs.{pair, pairs, times, negative, norm, imaginary}
 use Rattle.pair.proofs.Laws.{pairs-ring, pairs-domain, norm-nonneg}
-use Rattle.pair.proofs.Euclid.{pairs-bezout}
-use Rattle.pair.proofs.Roots.{not-both, first-some}
-use Rattle.pair.proofs.Units.{no-imaginary-square}
+use Rattle.divisor.proofs.Euclid.{pairs-bezout}
+use Rattle.divisor.proofs.Roots.{not-both, first-some}
+use Rattle.divisor.proofs.Units.{no-imaginary-square}
 use Rattle.root.specs.Pairs.{quadratic, LeadKept}
 use Rattle.root.specs.Roots.{quartic}
 use Rattle.root.proofs.Once.{quartic-same, quadratic-same}

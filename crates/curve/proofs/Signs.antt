@@ -18,7 +18,7 @@ use Rattle.poly.proofs.Lists.{at-opposite}
 use Rattle.pair.specs.declared.Pair.{Pair}
 use Rattle.pair.specs.Pairs.{pair, pairs, negative}
 use Rattle.pair.proofs.Laws.{pairs-ring}
-use Rattle.pair.proofs.Roots.{first-found}
+use Rattle.divisor.proofs.Roots.{first-found}
 use Rattle.root.specs.Roots.{LeadPositive}
 use Rattle.root.specs.Pairs.{LeadKept}
 use Rattle.root.proofs.Leads.{lead-top, kept-none}

@@ -31,7 +31,7 @@ use Rattle.pair.specs.declared.Pair.{Pair}
 use Rattle.pair.specs.Pairs.{pairs, norm, PartsWithin}
 use Rattle.pair.proofs.Laws.{pairs-ring, pairs-domain, root-le, norm-size, norm-some}
 use Rattle.pair.proofs.Parts.{wider}
-use Rattle.pair.proofs.Divisors.{pair-zero?}
+use Rattle.divisor.proofs.Divisors.{pair-zero?}
 use Rattle.curve.specs.Curves.{InRange, differences, legPolynomial, squaredLength}
 use Rattle.curve.specs.Verdicts.{Squared, Generated, Still}
 use Rattle.curve.proofs.Lengths.{re-of, im-of, at-squaredLength, re-above, im-above, generated-some, generated-squared, squared-above, pairForm, squaredLength-form, squared-form}

@@ -1,8 +1,8 @@
 // What the pairs of D have in common, and D divided by it.
 use crate::Square;
+use divisor::PairQuotient;
+use divisor::quotient;
 use pair::Pair;
-use pair::PairQuotient;
-use pair::quotient;
 use root::pairs::Five;
 ghost use mathlib.Core.Path.{_≡_};
 ghost use mathlib.Core.Logic.{_≢_};
@@ -27,7 +27,7 @@ pub(crate) fn common(e: Five, s: Square) -> Pair
     let e2 = e.e2;
     let e3 = e.e3;
     let e4 = e.e4;
-    pair::gcd_all([e0, e1, e2, e3, e4], c)
+    divisor::gcd_all([e0, e1, e2, e3, e4], c)
 }
 
 // a / g, which is a pair.

@@ -19,10 +19,10 @@ use Rattle.whole.specs.Number.{FirstPositive}
 use Rattle.whole.proofs.Linear.{linear, minus-parts, times-parts, negative-parts}
 use Rattle.pair.specs.declared.Pair.{Pair}
 use Rattle.pair.specs.Pairs.{plus, minus, negative, times, multiple}
-use Rattle.pair.proofs.Roots.{square-roots, kept-roots}
 use Rattle.pair.proofs.Parts.{re-equal, im-equal}
 use Rattle.pair.proofs.Laws.{multiple-cancel}
 use Rattle.pair.proofs.PairSolver.{PairEx, the, _⊞_, _⊟_, _⊠_, _··_, opposite, solve-pairs}
+use Rattle.divisor.proofs.Roots.{square-roots, kept-roots}
 use Rattle.join.specs.Listing.{Triple, travelled, Travels, Join, Below, AllJoins}
 use Rattle.join.specs.Steps.{triple, shift, discriminant, centre, Quartered, Half}
 use Rattle.join.proofs.Order.{triple-equal, Before}

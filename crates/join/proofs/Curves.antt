@@ -18,9 +18,9 @@ use Rattle.poly.proofs.Domain.{times-cancel}
 use Rattle.pair.specs.declared.Pair.{Pair}
 use Rattle.pair.specs.Pairs.{pairs, plus, minus, negative, times, multiple}
 use Rattle.pair.proofs.Laws.{pairs-ring, pairs-domain, multiple-cancel}
-use Rattle.pair.proofs.Divisors.{pair-zero?}
 use Rattle.pair.proofs.PairSolver.{the, _⊞_, _⊟_, _⊠_, _··_, opposite, nought, solve-pairs}
-use Rattle.pair.proofs.Roots.{first-some, first-found, kept-roots}
+use Rattle.divisor.proofs.Divisors.{pair-zero?}
+use Rattle.divisor.proofs.Roots.{first-some, first-found, kept-roots}
 use Rattle.curve.proofs.SquaredLegs.{t0, t1, t2, t3, t4, quintic-legs}
 use Rattle.join.specs.Listing.{Triple, travelled, Join, Member, AllJoins}
 use Rattle.join.specs.Curves.{QuinticLegs, legList, total, tripled, Squares, Traces, TracedOnce}

@@ -1,4 +1,2 @@
--- The definitions of pairs, and what the functions promise.
+-- The definitions of pairs.
 pub mod Pairs
-pub mod Quotients
-pub mod Roots

@@ -20,7 +20,7 @@ use Rattle.poly.proofs.Divisibility.{unit-of-one}
 use Rattle.pair.specs.declared.Pair.{Pair}
 use Rattle.pair.specs.Pairs.{pair, pairs}
 use Rattle.pair.proofs.Laws.{pairs-ring}
-use Rattle.pair.proofs.Units.{unit-norm}
+use Rattle.divisor.proofs.Units.{unit-norm}
 use Rattle.root.specs.Roots.{quartic}
 use Rattle.root.specs.Pairs.{quadratic}
 use Rattle.curve.specs.declared.Curve.{Curve}

@@ -19,7 +19,7 @@ use Rattle.poly.proofs.Top.{up-to-sign-same}
 use Rattle.pair.specs.declared.Pair.{Pair}
 use Rattle.pair.specs.Pairs.{pairs}
 use Rattle.pair.proofs.Laws.{pairs-ring}
-use Rattle.pair.proofs.Roots.{not-both}
+use Rattle.divisor.proofs.Roots.{not-both}
 use Rattle.root.specs.Search.{Lead}
 use Rattle.root.specs.Roots.{LeadPositive}
 use Rattle.root.specs.Pairs.{Kept, LeadKept}

@@ -91,7 +91,7 @@ fn small_quotient(n: Pair, t: Pair) -> Pair
     requires { ⌜ PartsWithin (2 ^ 30) n × PartsWithin (2 ^ 30) t × (t ≢ pairs .none) ⌝ }
     ensures { λ r. ⌜ SmallQuotient pairs SmallPair n t r ⌝ }
 {
-    let pair::PairQuotient::Whole(q) = pair::quotient(n, t) else {
+    let divisor::PairQuotient::Whole(q) = divisor::quotient(n, t) else {
         return Pair { re: 0, im: 0 };
     };
     if pair::within(q, 20000) {
@@ -120,7 +120,7 @@ fn quadratic_root(e: Five) -> PairRoot
     ensures { λ r. ⌜ IsPairRoot (five e) r ⌝ }
 {
     let e4 = e.e4;
-    let pair::PairRoot::Root(s) = pair::root(e4) else {
+    let divisor::PairRoot::Root(s) = divisor::root(e4) else {
         return PairRoot::NoRoot;
     };
     let w = candidate(e, s);

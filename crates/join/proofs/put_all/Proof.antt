@@ -8,9 +8,9 @@ use lib.IntN.{pos}
 use lib.ListN.{length}
 use Rattle.pair.specs.declared.Pair.{Pair}
 use Rattle.pair.specs.Pairs.{pairs, plus, minus, times, multiple, PartsWithin}
-use Rattle.pair.specs.Roots.{KeptRoot, IsPairRoot}
 use Rattle.pair.proofs.Parts.{wider, plus-within, minus-within, negative-within}
-use Rattle.pair.proofs.Roots.{pair-root-within}
+use Rattle.divisor.specs.Roots.{KeptRoot, IsPairRoot}
+use Rattle.divisor.proofs.Roots.{pair-root-within}
 use Rattle.join.specs.Steps.{Half, Sized}
 use Rattle.join.proofs.Centres.{rest, halves-join, join-halves, ends-below}
 use Rattle.join.proofs.Sizes.{rest-within}

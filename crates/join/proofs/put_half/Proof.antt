@@ -7,9 +7,9 @@ use lib.IntN.{pos}
 use Rattle.whole.specs.Number.{Tells}
 use Rattle.pair.specs.declared.Pair.{Pair}
 use Rattle.pair.specs.Pairs.{pairs, minus, negative, multiple, PartsWithin}
-use Rattle.pair.specs.Roots.{KeptRoot, IsPairRoot}
 use Rattle.pair.proofs.Parts.{wider, plus-within, negative-within}
-use Rattle.pair.proofs.Roots.{pair-root-within}
+use Rattle.divisor.specs.Roots.{KeptRoot, IsPairRoot}
+use Rattle.divisor.proofs.Roots.{pair-root-within}
 use Rattle.join.specs.Listing.{Triple}
 use Rattle.join.specs.Steps.{shift, discriminant, centre, Sized, Quartered}
 use Rattle.join.proofs.Centres.{quarters-half, half-quarters, quarters-below}

@@ -2,9 +2,9 @@
 use mathlib.Core.Path.{subst}
 use borrow.Author.Needs.{needs}
 use lib.Dec.{lit≤}
-use Rattle.pair.specs.Quotients.{IsPairQuotient}
 use Rattle.pair.proofs.Parts.{wider}
-use Rattle.pair.proofs.Division.{quotient-within}
+use Rattle.divisor.specs.Quotients.{IsPairQuotient}
+use Rattle.divisor.proofs.Division.{quotient-within}
 use Rattle.curve.proofs.divisors.pair_share.Statement.{statement}
 use Rattle.curve.proofs.divisors.pair_share.Tie as tie
 

@@ -11,7 +11,7 @@ use Rattle.pair.specs.declared.Pair.{Pair}
 use Rattle.pair.specs.Pairs.{pairs, times, one, PartsWithin}
 use Rattle.pair.proofs.Parts.{zero-within}
 use Rattle.pair.proofs.Laws.{pairs-ring}
-use Rattle.pair.proofs.Divisors.{greatest-within}
+use Rattle.divisor.proofs.Divisors.{greatest-within}
 use Rattle.root.specs.declared.pairs.Five.{Five}
 use Rattle.root.specs.Pairs.{five}
 use Rattle.curve.specs.Steps.{PairShares, PairsDivided}

@@ -1,6 +1,6 @@
 -- `preimages::generator` meets its contract.
 use Rattle.poly.proofs.Top.{top-some}
-use Rattle.pair.proofs.Divisors.{greatest-zero}
+use Rattle.divisor.proofs.Divisors.{greatest-zero}
 use Rattle.root.specs.Pairs.{five}
 use Rattle.curve.specs.Verdicts.{Still}
 use Rattle.curve.proofs.Known.{pairs-slight}

@@ -9,7 +9,7 @@ use Rattle.whole.proofs.Flags.{told, untold}
 use Rattle.poly.specs.Terms.{Above, Top}
 use Rattle.poly.proofs.Top.{length-above, above-lowered}
 use Rattle.pair.specs.Pairs.{pairs}
-use Rattle.pair.proofs.Roots.{first-some}
+use Rattle.divisor.proofs.Roots.{first-some}
 use Rattle.root.specs.declared.pairs.Quadratic.{Quadratic}
 use Rattle.root.specs.Pairs.{quadratic, LeadKept}
 use Rattle.curve.proofs.Turned.{lead-of}

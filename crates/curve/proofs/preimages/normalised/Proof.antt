@@ -10,7 +10,7 @@ use Rattle.pair.specs.declared.Pair.{Pair}
 use Rattle.pair.specs.Pairs.{pair, times, negative}
 use Rattle.pair.proofs.Parts.{wider}
 use Rattle.pair.proofs.Laws.{pairs-ring, times-one}
-use Rattle.pair.proofs.Roots.{first-found}
+use Rattle.divisor.proofs.Roots.{first-found}
 use Rattle.root.specs.Pairs.{quadratic}
 use Rattle.curve.proofs.Generators.{opposite-opposite}
 use Rattle.curve.proofs.preimages.normalised.Statement.{statement}

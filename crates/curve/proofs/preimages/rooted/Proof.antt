@@ -13,7 +13,7 @@ use Rattle.pair.specs.declared.Pair.{Pair}
 use Rattle.pair.specs.Pairs.{pair, pairs, times, negative, imaginary, PartsWithin}
 use Rattle.pair.proofs.Parts.{wider, negative-within, turned-within}
 use Rattle.pair.proofs.Laws.{pairs-ring, pairs-domain}
-use Rattle.pair.proofs.Divisors.{greatest-within}
+use Rattle.divisor.proofs.Divisors.{greatest-within}
 use Rattle.root.specs.Search.{SmallRoot}
 use Rattle.root.specs.Pairs.{five, quadratic, SmallPair, Kept, IsPairRoot}
 use Rattle.curve.specs.Verdicts.{Still, SquareOf}

@@ -10,9 +10,9 @@ use borrow.Fn.PlainCycle.{Measures, is, falls, and}
 use Rattle.poly.specs.Terms.{Top}
 use Rattle.pair.specs.declared.Pair.{Pair}
 use Rattle.pair.specs.Pairs.{pairs, PartsWithin}
-use Rattle.pair.proofs.Divisors.{pair-zero?}
 use Rattle.pair.proofs.Laws.{pairs-ring, pairs-domain}
 use Rattle.pair.proofs.Parts.{zero-within}
+use Rattle.divisor.proofs.Divisors.{pair-zero?}
 use Rattle.root.specs.declared.pairs.Quadratic.{Quadratic}
 use Rattle.root.specs.Search.{SmallRoot}
 use Rattle.root.specs.Pairs.{five, quadratic, SmallPair, Kept, IsPairRoot}

@@ -6,8 +6,8 @@ use lib.Dec.{lit≤}
 use Rattle.poly.specs.Terms.{twice}
 use Rattle.pair.specs.declared.Pair.{Pair}
 use Rattle.pair.specs.Pairs.{pairs, minus, times, PartsWithin}
-use Rattle.pair.proofs.Euclid.{twice-pair-some}
 use Rattle.pair.proofs.Parts.{wider, times-within, plus-within, minus-within}
+use Rattle.divisor.proofs.Euclid.{twice-pair-some}
 use Rattle.root.specs.declared.pairs.Five.{Five}
 use Rattle.root.specs.Search.{SmallQuotient}
 use Rattle.root.specs.Pairs.{SmallPair}

@@ -8,11 +8,11 @@ use Rattle.whole.specs.Poly.{at}
 use Rattle.poly.proofs.Roots.{root-lead}
 use Rattle.pair.specs.declared.Pair.{Pair}
 use Rattle.pair.specs.Pairs.{pairs, times}
-use Rattle.pair.specs.Roots.{IsPairRoot, KeptRoot}
-use Rattle.pair.proofs.Divisors.{pair-zero?}
 use Rattle.pair.proofs.Laws.{pairs-ring, pairs-domain}
 use Rattle.pair.proofs.Parts.{wider, negative-within}
-use Rattle.pair.proofs.Roots.{pair-root-within}
+use Rattle.divisor.specs.Roots.{IsPairRoot, KeptRoot}
+use Rattle.divisor.proofs.Divisors.{pair-zero?}
+use Rattle.divisor.proofs.Roots.{pair-root-within}
 use Rattle.root.specs.declared.pairs.Five.{Five}
 use Rattle.root.specs.Pairs.{SmallPair, Kept}
 use Rattle.root.proofs.Candidates.{candidate-decides, candidate-lead}

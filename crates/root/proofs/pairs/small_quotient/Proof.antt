@@ -5,9 +5,9 @@ use Rattle.whole.specs.Number.{Tells}
 use Rattle.poly.proofs.Domain.{times-cancel}
 use Rattle.pair.specs.declared.Pair.{Pair}
 use Rattle.pair.specs.Pairs.{times}
-use Rattle.pair.specs.Quotients.{IsPairQuotient}
 use Rattle.pair.proofs.Laws.{pairs-ring, pairs-domain}
 use Rattle.pair.proofs.Parts.{zero-within}
+use Rattle.divisor.specs.Quotients.{IsPairQuotient}
 use Rattle.root.specs.Pairs.{SmallPair}
 use Rattle.root.proofs.pairs.small_quotient.Statement.{statement}
 use Rattle.root.proofs.pairs.small_quotient.Tie as tie

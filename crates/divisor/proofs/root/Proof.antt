@@ -1,4 +1,4 @@
--- `pair::root` meets its contract: where z is w², |z|² is the square of |w|².
+-- `divisor::root` meets its contract: where z is w², |z|² is the square of |w|².
 use mathlib.Core.Path.{_≡_, sym, ap, _∙_, subst}
 use borrow.Author.Needs.{needs}
 use lib.IntN.{pos, natAbs}
@@ -9,10 +9,10 @@ use Rattle.whole.specs.Roots.{IsRoot}
 use Rattle.whole.proofs.Integers.{abs-times}
 use Rattle.whole.proofs.Order.{nonneg-is}
 use Rattle.whole.proofs.Machine.{cast-asks}
 use Rattle.pair.specs.Pairs.{norm}
 use Rattle.pair.proofs.Laws.{norm-nonneg, norm-times}
-use Rattle.pair.proofs.root.Statement.{statement}
-use Rattle.pair.proofs.root.Tie as tie
+use Rattle.divisor.proofs.root.Statement.{statement}
+use Rattle.divisor.proofs.root.Tie as tie
 
 norm-requires : tie.Need-norm-requires
 norm-requires c κs = search needs

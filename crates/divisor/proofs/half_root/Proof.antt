@@ -1,4 +1,4 @@
--- `pair::half_root` meets its contract.
+-- `divisor::half_root` meets its contract.
 use mathlib.Core.Path.{_≡_, refl, sym, ap, _∙_, subst}
 use Prim.Native.Nat.{ℕ, _*_, _/_, _^_}
 use native.Mathlib.Omega.{arith}
@@ -13,9 +13,9 @@ use Rattle.whole.specs.Roots.{IsRoot}
 use Rattle.whole.proofs.Bound.{fits-within}
 use Rattle.whole.proofs.Linear.{linear}
 use Rattle.whole.proofs.Machine.{cast-asks}
 use Rattle.pair.proofs.Laws.{root-le, root-equal}
-use Rattle.pair.proofs.half_root.Statement.{statement}
-use Rattle.pair.proofs.half_root.Tie as tie
+use Rattle.divisor.proofs.half_root.Statement.{statement}
+use Rattle.divisor.proofs.half_root.Tie as tie
 
 s-is : (c : tie.Start) → toZ w64 (ofZ w64 (c .args .s)) ≡ c .args .s
 s-is c = toZ-ofZ w64 (c .args .s) (c .fits .s)

@@ -1,4 +1,4 @@
--- `pair::quotient` meets its contract: b divides a just where |b|² divides both parts of a conj(b).
+-- `divisor::quotient` meets its contract: b divides a just where |b|² divides both parts of a conj(b).
 use mathlib.Core.Path.{_≡_, ap, _∙_, subst}
 use borrow.Author.Needs.{needs}
 use lib.IntN.{ℤ}
@@ -7,12 +7,12 @@ use mir.Val.{toZ, ofZ}
 use mir.ValLaws.{toZ-ofZ}
 use Rattle.whole.specs.Quotients.{Divisible, IsQuotient}
 use Rattle.whole.proofs.Linear.{linear}
 use Rattle.pair.specs.declared.Pair.{Pair}
 use Rattle.pair.specs.Pairs.{pair, times, conjugate, norm}
 use Rattle.pair.proofs.Laws.{norm-some}
-use Rattle.pair.proofs.Division.{divides-over, over-divides}
-use Rattle.pair.proofs.quotient.Statement.{statement}
-use Rattle.pair.proofs.quotient.Tie as tie
+use Rattle.divisor.proofs.Division.{divides-over, over-divides}
+use Rattle.divisor.proofs.quotient.Statement.{statement}
+use Rattle.divisor.proofs.quotient.Tie as tie
 
 numerator-requires : tie.Need-numerator-requires
 numerator-requires c κs = search needs

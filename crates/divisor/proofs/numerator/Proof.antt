@@ -1,10 +1,10 @@
--- `pair::numerator` meets its contract.
+-- `divisor::numerator` meets its contract.
 use mathlib.Core.Path.{ap, _∙_}
 use borrow.Author.Needs.{needs}
 use Rattle.pair.specs.Pairs.{times, conjugate}
 use Rattle.pair.proofs.Parts.{conjugate-within}
-use Rattle.pair.proofs.numerator.Statement.{statement}
-use Rattle.pair.proofs.numerator.Tie as tie
+use Rattle.divisor.proofs.numerator.Statement.{statement}
+use Rattle.divisor.proofs.numerator.Tie as tie
 
 conjugate-requires : tie.Need-conjugate-requires
 conjugate-requires c κs = search needs

@@ -8,10 +8,10 @@ use mathlib.Core.List.{List}
 use lib.IntN.{ℤ}
 use Rattle.whole.specs.Poly.{Divides, Greatest}
 use Rattle.whole.specs.Quotients.{Nearest}
 use Rattle.pair.specs.declared.Pair.{Pair}
-use Rattle.pair.specs.declared.PairQuotient.{PairQuotient}
-use Rattle.pair.specs.declared.PairQuotient.the-variants.{Whole, None}
 use Rattle.pair.specs.Pairs.{pairs, minus, times, conjugate, norm}
+use Rattle.divisor.specs.declared.PairQuotient.{PairQuotient}
+use Rattle.divisor.specs.declared.PairQuotient.the-variants.{Whole, None}
 
 abbrev pub IsPairQuotient : Pair → Pair → PairQuotient → Type 0
 IsPairQuotient a b (Whole q) = times b q ≡ a

@@ -3,7 +3,7 @@
 --   pairs-euclid          the remainder of a nearest quotient has at most half of the divisor's norm
 --   pairs-bezout          so any two pairs have a common divisor a x + b y
 --   twice-pair-some       2 a is not 0 where a is not
--- With `pairs-ring` and `pairs-domain` (Laws) these are all that the crate `poly` asks for.
+-- With `pairs-ring` and `pairs-domain` (pair, Laws) these are all that the crate `poly` asks for.
 use mathlib.Core.Path.{_≡_, refl, sym, ap}
 use mathlib.Core.List.{[], _∷_}
 use mathlib.Core.Logic.{_≢_, _⊎_, inl, inr}
@@ -19,12 +19,12 @@ use Rattle.poly.specs.Terms.{twice}
 use Rattle.poly.proofs.Divisibility.{Bezout}
 use Rattle.poly.proofs.Domain.{twice-some}
 use Rattle.poly.proofs.Euclid.{Euclid, euclid-bezout}
 use Rattle.pair.specs.declared.Pair.{Pair}
 use Rattle.pair.specs.Pairs.{pair, pairs, plus, minus, times, conjugate, norm}
-use Rattle.pair.specs.Quotients.{Rest}
 use Rattle.pair.proofs.Laws.{pairs-ring, pairs-domain, norm-some}
-use Rattle.pair.proofs.Division.{rest-sum, rest-less}
-use Rattle.pair.proofs.Divisors.{pair-zero?}
+use Rattle.divisor.specs.Quotients.{Rest}
+use Rattle.divisor.proofs.Division.{rest-sum, rest-less}
+use Rattle.divisor.proofs.Divisors.{pair-zero?}
 
 moved : (n d q r k : ℤ) → q *ℤ d +ℤ r ≡ n → n -ℤ (q +ℤ k) *ℤ d ≡ r -ℤ k *ℤ d
 moved n d q r k f =

@@ -1,13 +1,13 @@
--- `pair::rest` meets its contract.
+-- `divisor::rest` meets its contract.
 use mathlib.Core.Path.{sym, ap, _∙_}
 use Prim.Native.Nat.{_^_}
 use borrow.Author.Needs.{needs}
 use lib.Dec.{lit≤}
 use Rattle.pair.specs.Pairs.{minus, PartsWithin}
 use Rattle.pair.proofs.Parts.{wider, times-within}
-use Rattle.pair.proofs.Division.{nearest-within}
-use Rattle.pair.proofs.rest.Statement.{statement}
-use Rattle.pair.proofs.rest.Tie as tie
+use Rattle.divisor.proofs.Division.{nearest-within}
+use Rattle.divisor.proofs.rest.Statement.{statement}
+use Rattle.divisor.proofs.rest.Tie as tie
 
 nearest-requires : tie.Need-nearest-requires
 nearest-requires c κs = search needs

@@ -1,4 +1,4 @@
--- `pair::gcd` meets its contract. The invariant: x and y have the common divisors of a and b, and stay as small. The norm of y falls.
+-- `divisor::gcd` meets its contract. The invariant: x and y have the common divisors of a and b, and stay as small. The norm of y falls.
 use mathlib.Core.Path.{_≡_, sym, ap, _∙_, subst}
 use mathlib.Core.Logic.{_≢_, _↔_, Iff·rfl, Iff·symm, Iff·trans}
 use Prim.Native.Nat.{_^_}
@@ -11,12 +11,12 @@ use Rattle.whole.specs.Poly.{Divides}
 use Rattle.whole.specs.Number.{Tells}
 use Rattle.whole.proofs.Divisor.{divides-none, common-two, greatest-is, division-common}
 use Rattle.whole.proofs.Machine.{same-bits}
 use Rattle.pair.specs.declared.Pair.{Pair}
 use Rattle.pair.specs.Pairs.{pairs, norm, PartsWithin}
 use Rattle.pair.proofs.Laws.{pairs-ring, norm-zero}
-use Rattle.pair.proofs.Division.{rest-sum, rest-within, rest-less}
-use Rattle.pair.proofs.gcd.Statement.{statement}
-use Rattle.pair.proofs.gcd.Tie as tie
+use Rattle.divisor.proofs.Division.{rest-sum, rest-within, rest-less}
+use Rattle.divisor.proofs.gcd.Statement.{statement}
+use Rattle.divisor.proofs.gcd.Tie as tie
 
 abbrev Both : Pair → Pair → Pair → Type 0
 Both d x y = Divides pairs d x × Divides pairs d y

@@ -20,11 +20,11 @@ use Rattle.poly.proofs.Divisibility.{unit-of-one}
 use Rattle.poly.proofs.Domain.{times-cancel}
 use Rattle.poly.proofs.Content.{greatest-associates}
 use Rattle.poly.proofs.Wholes.{wholes-domain}
 use Rattle.pair.specs.declared.Pair.{Pair}
 use Rattle.pair.specs.Pairs.{pair, pairs, times, conjugate, norm, one, PartsWithin, AllWithin}
 use Rattle.pair.proofs.Parts.{pair-equal, zero-within}
 use Rattle.pair.proofs.Laws.{times-one, norm-times, norm-zero, times-conjugate, pairs-ring, pairs-domain}
-use Rattle.pair.proofs.Division.{divisor-within}
+use Rattle.divisor.proofs.Division.{divisor-within}
 
 pub pair-zero? : (a : Pair) → Dec (a ≡ pairs .none)
 pair-zero? a = by (ℤ-discrete (a .re) (pos 0)) (ℤ-discrete (a .im) (pos 0))

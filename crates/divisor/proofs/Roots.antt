@@ -27,14 +27,14 @@ use Rattle.whole.proofs.Linear.{linear, plus-parts, minus-parts, negative-parts
 use Rattle.whole.proofs.Order.{nonneg-is, compare}
 use Rattle.whole.proofs.Signs.{negated-positive, times-negative, negative-square}
 use Rattle.poly.proofs.Domain.{roots-agree}
 use Rattle.pair.specs.declared.Pair.{Pair}
-use Rattle.pair.specs.declared.PairRoot.{PairRoot}
-use Rattle.pair.specs.declared.PairRoot.the-variants.{Root, None}
 use Rattle.pair.specs.Pairs.{pair, pairs, negative, times, norm, PartsWithin}
-use Rattle.pair.specs.Roots.{Candidate, KeptRoot, IsPairRoot}
 use Rattle.pair.proofs.Parts.{pair-equal}
 use Rattle.pair.proofs.Laws.{pairs-ring, pairs-domain, negative-twice, norm-times, square-size, root-le, root-equal, norm-size}
-use Rattle.pair.proofs.Divisors.{pair-zero?}
+use Rattle.divisor.specs.declared.PairRoot.{PairRoot}
+use Rattle.divisor.specs.declared.PairRoot.the-variants.{Root, None}
+use Rattle.divisor.specs.Roots.{Candidate, KeptRoot, IsPairRoot}
+use Rattle.divisor.proofs.Divisors.{pair-zero?}
 
 -- ---- one answer
 pub square-roots : (a b : Pair) → times a a ≡ times b b → (a ≡ b) ⊎ (a ≡ negative b)

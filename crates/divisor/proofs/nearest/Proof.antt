@@ -1,14 +1,14 @@
--- `pair::nearest` meets its contract: what the calls hand on are the parts of a conj(b), and |b|².
+-- `divisor::nearest` meets its contract: what the calls hand on are the parts of a conj(b), and |b|².
 use mathlib.Core.Path.{_≡_, ap, _∙_}
 use borrow.Author.Needs.{needs}
 use mir.Syntax.{w64}
 use mir.Val.{toZ, ofZ}
 use mir.ValLaws.{toZ-ofZ}
 use Rattle.pair.specs.declared.Pair.{Pair}
 use Rattle.pair.specs.Pairs.{times, conjugate, norm}
 use Rattle.pair.proofs.Laws.{norm-some}
-use Rattle.pair.proofs.nearest.Statement.{statement}
-use Rattle.pair.proofs.nearest.Tie as tie
+use Rattle.divisor.proofs.nearest.Statement.{statement}
+use Rattle.divisor.proofs.nearest.Tie as tie
 
 numerator-requires : tie.Need-numerator-requires
 numerator-requires c κs = search needs

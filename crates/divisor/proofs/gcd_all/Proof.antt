@@ -1,4 +1,4 @@
--- `pair::gcd_all` meets its contract. The invariant: g has just the divisors that the pairs before i have in common, and stays small.
+-- `divisor::gcd_all` meets its contract. The invariant: g has just the divisors that the pairs before i have in common, and stays small.
 use mathlib.Core.Path.{_≡_, sym, ap, _∙_}
 use mathlib.Core.List.{List, [], _∷_}
 use mathlib.Core.Logic.{_≢_, _↔_, Iff·trans}
@@ -15,15 +15,15 @@ use Rattle.whole.proofs.Divisor.{Common, divides-none, divides-trans, common-tw
 use Rattle.whole.proofs.Linear.{linear}
 use Rattle.whole.proofs.Machine.{same-bits}
 use Rattle.poly.proofs.Content.{content}
 use Rattle.pair.specs.declared.Pair.{Pair}
 use Rattle.pair.specs.Pairs.{pairs, norm, PartsWithin, AllWithin}
-use Rattle.pair.specs.Quotients.{NormOfGreatest}
 use Rattle.pair.proofs.Parts.{zero-within}
 use Rattle.pair.proofs.Laws.{pairs-ring}
-use Rattle.pair.proofs.Divisors.{greatest-within, same-norm-divides}
-use Rattle.pair.proofs.Euclid.{pairs-bezout}
-use Rattle.pair.proofs.gcd_all.Statement.{statement}
-use Rattle.pair.proofs.gcd_all.Tie as tie
+use Rattle.divisor.specs.Quotients.{NormOfGreatest}
+use Rattle.divisor.proofs.Divisors.{greatest-within, same-norm-divides}
+use Rattle.divisor.proofs.Euclid.{pairs-bezout}
+use Rattle.divisor.proofs.gcd_all.Statement.{statement}
+use Rattle.divisor.proofs.gcd_all.Tie as tie
 
 abbrev Before : Pair → List Pair → ℕ → Type 0
 Before d ps i = (k : ℕ) → k < i → Divides pairs d (at pairs ps k)

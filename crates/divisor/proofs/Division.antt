@@ -27,13 +27,13 @@ use Rattle.whole.proofs.Bound.{abs-plus}
 use Rattle.whole.proofs.Division.{nearest-close}
 use Rattle.whole.proofs.Division as whole
 use Rattle.poly.proofs.Domain.{times-cancel}
 use Rattle.pair.specs.declared.Pair.{Pair}
-use Rattle.pair.specs.declared.PairQuotient.{PairQuotient}
-use Rattle.pair.specs.declared.PairQuotient.the-variants.{Whole, None}
 use Rattle.pair.specs.Pairs.{pair, pairs, plus, minus, times, conjugate, norm, PartsWithin}
-use Rattle.pair.specs.Quotients.{IsPairQuotient, NearestPair, Rest}
 use Rattle.pair.proofs.Parts.{pair-equal}
 use Rattle.pair.proofs.Laws.{times-comm, pairs-ring, pairs-domain, root-le, norm-size, norm-nonneg, norm-zero, norm-some}
+use Rattle.divisor.specs.declared.PairQuotient.{PairQuotient}
+use Rattle.divisor.specs.declared.PairQuotient.the-variants.{Whole, None}
+use Rattle.divisor.specs.Quotients.{IsPairQuotient, NearestPair, Rest}
 
 -- ---- identities, for a = x + iy, b = u + iv and q = p + iq
 module _ (x y u v p q : ℤ) where

@@ -9,10 +9,10 @@ use Prim.Native.Nat.{ℕ, _*_, _/_, _^_}
 use lib.IntN.{ℤ, pos, natAbs}
 use lib.Signed.{_≤ℤ_}
 use Rattle.whole.specs.Number.{Within, FirstPositive}
 use Rattle.pair.specs.declared.Pair.{Pair}
-use Rattle.pair.specs.declared.PairRoot.{PairRoot}
-use Rattle.pair.specs.declared.PairRoot.the-variants.{Root, None}
 use Rattle.pair.specs.Pairs.{pairs, times, PartsWithin}
+use Rattle.divisor.specs.declared.PairRoot.{PairRoot}
+use Rattle.divisor.specs.declared.PairRoot.the-variants.{Root, None}
 
 pub record HalfRoot (s r : ℤ) : Type 0 where
   pub small : Within (2 ^ 16) r

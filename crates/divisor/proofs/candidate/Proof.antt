@@ -1,4 +1,4 @@
--- `pair::candidate` meets its contract: the halves of n + x and n − x are the squares of a root's parts, and y has the sign of their product.
+-- `divisor::candidate` meets its contract: the halves of n + x and n − x are the squares of a root's parts, and y has the sign of their product.
 use mathlib.Core.Path.{_≡_, refl, sym}
 use Prim.Native.Nat.{ℕ, _^_, _<_}
 use native.Mathlib.Nat.{le-trans, le-of-eq}
@@ -13,12 +13,12 @@ use Rattle.whole.proofs.Integers.{abs-negative}
 use Rattle.whole.proofs.Wholes.{readℤ}
 use Rattle.whole.proofs.Linear.{linear}
 use Rattle.whole.proofs.Bound.{done, _▸_, bounds, within, fits-within}
 use Rattle.pair.specs.declared.Pair.{Pair}
 use Rattle.pair.specs.Pairs.{times}
-use Rattle.pair.specs.Roots.{HalfRoot}
-use Rattle.pair.proofs.Roots.{norm-root-small, plus-nonneg, minus-nonneg, half-plus, half-minus, square-above, square-below}
-use Rattle.pair.proofs.candidate.Statement.{statement}
-use Rattle.pair.proofs.candidate.Tie as tie
+use Rattle.divisor.specs.Roots.{HalfRoot}
+use Rattle.divisor.proofs.Roots.{norm-root-small, plus-nonneg, minus-nonneg, half-plus, half-minus, square-above, square-below}
+use Rattle.divisor.proofs.candidate.Statement.{statement}
+use Rattle.divisor.proofs.candidate.Tie as tie
 
 -- a number with a bound is read back from its bits
 back : {b : ℕ} {x : ℤ} → b < 2 ^ 63 → Within b x → toZ w64 (ofZ w64 x) ≡ x

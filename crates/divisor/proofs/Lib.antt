@@ -1,0 +1,6 @@
+-- The theory of the division of pairs: quotients, divisors, roots, units.
+pub mod Division
+pub mod Divisors
+pub mod Roots
+pub mod Euclid
+pub mod Units

@@ -1,0 +1,174 @@
+// Quotients, greatest common divisors and square roots of pairs.
+// Their parts are at most 2^30 in size, as those of everything that is multiplied.
+use pair::Pair;
+use pair::conjugate;
+use pair::difference;
+use pair::is_zero;
+use pair::norm;
+use pair::product;
+ghost use mathlib.Core.Path.{_≡_};
+ghost use mathlib.Core.List.{_∷_, []};
+ghost use mathlib.Core.Logic.{_≢_};
+ghost use Prim.Native.Nat.{_*_, _^_};
+ghost use lib.IntN.{pos};
+ghost use lib.Signed.{_≤ℤ_, _<ℤ_};
+ghost use Rattle.whole.specs.Number.{Within};
+ghost use Rattle.whole.specs.Poly.{Greatest};
+ghost use Rattle.pair.specs.Pairs.{pairs, times, conjugate, norm, PartsWithin, AllWithin};
+ghost use Rattle.divisor.specs.Quotients.{IsPairQuotient, NearestPair, NormOfGreatest, Rest};
+ghost use Rattle.divisor.specs.Roots.{HalfRoot, Candidate, IsPairRoot};
+
+// A quotient that has to be a pair.
+pub enum PairQuotient {
+    Whole(Pair),
+    None,
+}
+
+// A root that has to be a pair.
+pub enum PairRoot {
+    Root(Pair),
+    None,
+}
+
+// a conj(b), whose parts over |b|² are those of a / b.
+fn numerator(a: Pair, b: Pair) -> Pair
+    requires { ⌜ PartsWithin (2 ^ 30) a × PartsWithin (2 ^ 30) b ⌝ }
+    ensures { λ r. ⌜ r ≡ times a (conjugate b) ⌝ }
+{
+    product(a, conjugate(b))
+}
+
+// a / b where b divides a.
+pub fn quotient(a: Pair, b: Pair) -> PairQuotient
+    requires { ⌜ PartsWithin (2 ^ 30) a × PartsWithin (2 ^ 30) b × (b ≢ pairs .none) ⌝ }
+    ensures { λ r. ⌜ IsPairQuotient a b r ⌝ }
+{
+    let n = numerator(a, b);
+    let d = norm(b);
+    let x = n.re;
+    let y = n.im;
+    let whole::Exact::Whole(u) = whole::quotient(x, d) else {
+        return PairQuotient::None;
+    };
+    let whole::Exact::Whole(v) = whole::quotient(y, d) else {
+        return PairQuotient::None;
+    };
+    PairQuotient::Whole(Pair { re: u, im: v })
+}
+
+// The pair nearest to a / b, part by part.
+pub fn nearest(a: Pair, b: Pair) -> Pair
+    requires { ⌜ PartsWithin (2 ^ 30) a × PartsWithin (2 ^ 30) b × (b ≢ pairs .none) ⌝ }
+    ensures { λ q. ⌜ NearestPair a b q ⌝ }
+{
+    let n = numerator(a, b);
+    let d = norm(b);
+    let x = n.re;
+    let y = n.im;
+    Pair {
+        re: whole::nearest(x, d),
+        im: whole::nearest(y, d),
+    }
+}
+
+// What is left of a over b.
+fn rest(a: Pair, b: Pair) -> Pair
+    requires { ⌜ PartsWithin (2 ^ 30) a × PartsWithin (2 ^ 30) b × (b ≢ pairs .none) ⌝ }
+    ensures { λ r. ⌜ Rest a b r ⌝ }
+{
+    difference(a, product(nearest(a, b), b))
+}
+
+// The greatest common divisor of two pairs, by Euclid's loop. A zero in a list takes no step.
+pub fn gcd(a: Pair, b: Pair) -> Pair
+    requires { ⌜ PartsWithin (2 ^ 30) a × PartsWithin (2 ^ 30) b ⌝ }
+    ensures { λ g. ⌜ Greatest pairs (a ∷ b ∷ []) g ⌝ }
+{
+    if is_zero(a) {
+        return b;
+    }
+    let mut x = a;
+    let mut y = b;
+    while norm(y) != 0 {
+        let r = rest(x, y);
+        x = y;
+        y = r;
+    }
+    x
+}
+
+// The greatest common divisor of five pairs, whose norm is c: that of some of them, if it has this norm, is that of all.
+pub fn gcd_all(ps: [Pair; 5], c: i64) -> Pair
+    requires { ⌜ AllWithin (2 ^ 30) ps × (pos 0 <ℤ c) × NormOfGreatest ps c ⌝ }
+    ensures { λ g. ⌜ Greatest pairs ps g ⌝ }
+{
+    let mut g = Pair { re: 0, im: 0 };
+    let mut i: usize = 0;
+    while i < 5 {
+        if norm(g) == c {
+            return g;
+        }
+        let p = ps[i];
+        g = gcd(p, g);
+        i += 1;
+    }
+    g
+}
+
+// The root of the half of s, and 0 where that is no square.
+fn half_root(s: i64) -> i64
+    requires { ⌜ (pos 0 ≤ℤ s) × Within (2 ^ 32) s ⌝ }
+    ensures { λ r. ⌜ HalfRoot s r ⌝ }
+{
+    match whole::square_root(s as u64 / 2) {
+        whole::Root::Square(r) => r as i64,
+        whole::Root::NotSquare => 0,
+    }
+}
+
+// A root of z, if it has one: a root u + iv has u² + v² = |z| = n and u² − v² = x.
+fn candidate(z: Pair, n: u64) -> Pair
+    requires { ⌜ PartsWithin (2 ^ 30) z × (pos (n * n) ≡ norm z) ⌝ }
+    ensures { λ w. ⌜ Candidate z w ⌝ }
+{
+    let x = z.re;
+    let y = z.im;
+    let m = n as i64;
+    let u = half_root(m + x);
+    let v = half_root(m - x);
+    if y < 0 {
+        Pair { re: u, im: -v }
+    } else {
+        Pair { re: u, im: v }
+    }
+}
+
+// w, if it is a root of z.
+fn kept(z: Pair, w: Pair) -> PairRoot
+    requires { ⌜ Candidate z w ⌝ }
+    ensures { λ r. ⌜ IsPairRoot z r ⌝ }
+{
+    let s = product(w, w);
+    let p = s.re;
+    let q = s.im;
+    let x = z.re;
+    let y = z.im;
+    if p != x {
+        return PairRoot::None;
+    }
+    if q != y {
+        return PairRoot::None;
+    }
+    PairRoot::Root(w)
+}
+
+// The square root of a pair. A square has a whole size |z|, so most pairs that are none are refused by the first root.
+pub fn root(z: Pair) -> PairRoot
+    requires { ⌜ PartsWithin (2 ^ 30) z ⌝ }
+    ensures { λ r. ⌜ IsPairRoot z r ⌝ }
+{
+    match whole::square_root(norm(z) as u64) {
+        whole::Root::Square(n) => kept(z, candidate(z, n)),
+        whole::Root::NotSquare => PairRoot::None,
+    }
+}
