@@ -24,4 +24,4 @@ Passes n flag = (k : ℕ) → k * k ≡ n → flag ≡ true
 pub record Above (n r : ℕ) : Type 0 where
   pub positive : 0 < r
   pub above : n < (r + 1) * (r + 1)
-  pub small : r ≤ 2 ^ 32
+  pub small : r < 2 ^ 32

@@ -76,10 +76,8 @@ fn floor_root(n: u64) -> u64
         return 0;
     }
     let mut r = guess(n);
-    let mut q = n / r;
-    while q < r {
-        r = (r + q) / 2;
-        q = n / r;
+    while r * r > n {
+        r = (r + n / r) / 2;
     }
     r
 }

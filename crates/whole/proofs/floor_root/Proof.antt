@@ -1,8 +1,7 @@
--- `whole::floor_root` meets its contract. The invariant: r is at or above the root, and q is n / r.
-use mathlib.Core.Path.{_≡_, refl}
+-- `whole::floor_root` meets its contract. The invariant: r is at or above the root.
 use mathlib.Core.Logic.{_≢_}
-use Prim.Native.Nat.{ℕ, _+_, _*_, _/_, _<_}
-use native.Mathlib.Nat.{le-div-iff-mul-le}
+use Prim.Native.Nat.{ℕ, _+_, _/_, _≤_, _<_}
+use native.Mathlib.Nat.{mul-le-mul, div-lt-iff-lt-mul}
 use native.Mathlib.Omega.{arith}
 use Rattle.whole.specs.Roots.{Above}
 use Rattle.whole.proofs.Squares.{root-positive, newton-above}
@@ -10,16 +9,16 @@ use Rattle.whole.proofs.floor_root.Statement.{statement}
 use Rattle.whole.proofs.floor_root.Tie as tie
 
 abbrev Inv-loop : tie.InvT-loop
-Inv-loop n r₀ q₀ r q = Above n r × (q ≡ n / r)
+Inv-loop n r₀ r = Above n r
 
 abbrev μ-loop : tie.MeasureT-loop
-μ-loop n r₀ q₀ r q = r
+μ-loop n r₀ r = r
 
 -- one step of Newton's
-step : (n r q : ℕ) → n ≢ 0 → Above n r → q ≡ n / r → q < r → Above n ((r + q) / 2)
-step n r q h inv e l =
-    let a : n < ((r + q) / 2 + 1) * ((r + q) / 2 + 1) = rw e (newton-above n r (inv .positive)) in
-    record { positive = root-positive n ((r + q) / 2) h a; above = a; small = omega (arith, inv .small) }
+step : (n r : ℕ) → n ≢ 0 → Above n r → n / r < r → Above n ((r + n / r) / 2)
+step n r h inv l =
+    let a = newton-above n r (inv .positive) in
+    record { positive = root-positive n ((r + n / r) / 2) h a; above = a; small = omega (arith, inv .small) }
 
 returns : tie.Need-returns Inv-loop μ-loop
 returns c = record { low = omega arith; high = omega (arith, c .if1 .taken) }
@@ -27,33 +26,32 @@ returns c = record { low = omega arith; high = omega (arith, c .if1 .taken) }
 guess-requires : tie.Need-guess-requires Inv-loop μ-loop
 guess-requires c κs = c .if1 .left
 
-div-q : tie.Need-div-q Inv-loop μ-loop
-div-q c = c .guess .ensures .positive
-
 loop-holds : tie.Need-loop-holds Inv-loop μ-loop
-loop-holds c = (c .guess .ensures, refl)
+loop-holds c = c .guess .ensures
+
+mul-loop : tie.Need-mul-loop Inv-loop μ-loop
+mul-loop c =
+    let most : c .loop .r ≤ 4294967295 = omega (arith, c .loop .inv .small) in
+    record { fits = omega (arith, mul-le-mul most most) }
+
+-- while r is above the root, n / r is below it
+below : (c : tie.In-loop Inv-loop μ-loop) → c .before .before .before .before .args .n / c .before .loop .r < c .before .loop .r
+below c = div-lt-iff-lt-mul (c .before .loop .inv .positive) .1 (c .loop-test .taken)
+
+div-r : tie.Need-div-r Inv-loop μ-loop
+div-r c = c .before .loop .inv .positive
 
 add-r : tie.Need-add-r Inv-loop μ-loop
-add-r c = omega arith
-
-next : (c : tie.In-loop Inv-loop μ-loop) → Above (c .before .before .before .before .args .n) ((c .before .loop .r + c .before .loop .q) / 2)
-next c =
-    let l = c .before .loop in
-    step (c .before .before .before .before .args .n) (l .r) (l .q) (c .before .before .before .if1 .left) (l .inv .0) (l .inv .1) (c .loop-test .taken)
-
-div-q-2 : tie.Need-div-q-2 Inv-loop μ-loop
-div-q-2 c = next c .positive
+add-r c = omega (arith, below c, c .before .loop .inv .small)
 
 loop-less : tie.Need-loop-less Inv-loop μ-loop
-loop-less c = omega arith
+loop-less c = omega (arith, below c)
 
 loop-again : tie.Need-loop-again Inv-loop μ-loop
-loop-again c = (next c, refl)
+loop-again c = step _ (c .before .loop .r) (c .before .before .before .if1 .left) (c .before .loop .inv) (below c)
 
 returns-2 : tie.Need-returns-2 Inv-loop μ-loop
-returns-2 c =
-    let l = c .before .loop in
-    record { low = le-div-iff-mul-le (l .inv .0 .positive) .0 (rw (l .inv .1) at (c .loop-test .left)); high = l .inv .0 .above }
+returns-2 c = record { low = omega (arith, c .loop-test .left); high = c .before .loop .inv .above }
 
 pub floor-root-spec : {M : Type 1} → statement M
 floor-root-spec =
@@ -63,10 +61,10 @@ floor-root-spec =
     μ-loop
     returns
     guess-requires
-    div-q
     loop-holds
+    mul-loop
+    div-r
     add-r
-    div-q-2
     loop-less
     loop-again
     returns-2)
