@@ -7,10 +7,12 @@
 //!     reference read FILE NUMBER          the curve of that number, and its record's bytes
 //!     reference append FILE OUT POINTS    the sheet with one more curve
 //!     reference erase FILE OUT            the sheet with every byte FF
+//!     reference compare COUNT SEED COMMAND...   calls by chance, compared with the library behind the command
 //!
-//! Status 0 is an answer, 1 a sheet or call refused, 2 a mistake in the command line or in a text.
+//! Status 0 is an answer, 1 a sheet or call refused or a difference, 2 a mistake in the command line or in a text.
 
 mod build;
+mod compare;
 mod curve;
 mod join;
 mod measure;
@@ -35,6 +37,8 @@ usage: reference expect FILE               answer every call of a script, a line
        reference read FILE NUMBER          the curve of that number, and its record's bytes
        reference append FILE OUT POINTS    the sheet with one more curve
        reference erase FILE OUT            the sheet with every byte FF
+       reference compare COUNT SEED COMMAND...
+                                           calls by chance, compared with the library behind the command
 
 A script line is `LABEL: CALL`; empty lines and lines that begin with # are skipped. Calls:
        recognise CURVE                     length CURVE
@@ -46,7 +50,7 @@ A script line is `LABEL: CALL`; empty lines and lines that begin with # are skip
        append C3 POINTS to RUNS            append C5 POINTS to RUNS
 A point or pair is (x,y), a curve 4 or 6 points with blanks between; a run of a sheet's bytes is (BYTE,HOW MANY).
 A sheet text has lines `C3 POINTS`, `C5 POINTS`, `erased N`, `bytes 00 11 ff`, and # for comments.
-Status 0 is an answer, 1 a sheet or call refused, 2 a mistake in the command line or in a text.
+Status 0 is an answer, 1 a sheet or call refused or a difference, 2 a mistake in the command line or in a text.
 ";
 
 /// What a command ends with: the text of an answer, the text of a refusal, or a mistake.
@@ -92,6 +96,11 @@ fn run(words: &[&str]) -> Result<End, String> {
             changed(file, out, |bytes| sheet::append(bytes, &curve))
         }
         ["erase", file, out] => changed(file, out, sheet::erase),
+        ["compare", count, seed, command @ ..] => {
+            let (count, seed) = (whole(count)?, whole(seed)?);
+            let compared = compare::compare(count, seed, command)?;
+            Ok(compared.map_or_else(End::Refused, End::Answer))
+        }
         _ => Err(format!("no such command\n{HELP}")),
     }
 }
@@ -105,6 +114,11 @@ fn text_of(file: &str) -> Result<String, String> {
         file,
         std::fs::read_to_string(file).map_err(|why| why.to_string()),
     )
+}
+
+fn whole(word: &str) -> Result<u64, String> {
+    word.parse()
+        .map_err(|_| format!("`{word}` is no whole number"))
 }
 
 /// Puts the file's name before what is wrong with it.

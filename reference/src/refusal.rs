@@ -1,4 +1,21 @@
-//! The refusal table: every refusal by its number.
+//! The refusal table: every refusal by its number, and its name.
+
+pub const NAMES: [&str; 14] = [
+    "TOO LONG",
+    "CUT",
+    "LEFTOVER",
+    "KIND",
+    "LENGTH",
+    "RANGE",
+    "NUMBER",
+    "STILL",
+    "NOT PH",
+    "NO PREIMAGE",
+    "ROOT",
+    "ROOM",
+    "THIRDS",
+    "DEAD END",
+];
 
 #[derive(Clone, Copy, Debug, PartialEq, Eq)]
 pub enum Refusal {

@@ -1,0 +1,151 @@
+/* The calls of the yard's proved curve library, for C99 and C++. Link with libyard.a.
+ *
+ * What comes back. 0 or more is an answer, which each call describes. Below 0 is a refusal, as
+ * -(number + 32 * place); yard_refusal and yard_place take the two apart. A place is a byte of the sheet, and 0
+ * where a refusal has none.
+ *
+ * Which refusal. Each call lists those that it knows, in order, and gives the first whose cause holds.
+ *
+ * Areas. An area is a pointer and how many numbers or bytes it holds. The number area `out`, of `room` numbers, is
+ * written whole in every call that has one: the answer from its start and zeros behind it, or zeros alone after a
+ * refusal. A sheet that a call may write keeps every byte where the call refuses.
+ *
+ * What a caller owes. No pointer is null, not even where a count is 0; int64_t areas are aligned as the compiler
+ * aligns them; an area that a call writes overlaps no other area of that call; and each area has the size that it
+ * is said to have. Nothing else is asked: numbers, bytes and counts may have any value.
+ *
+ * A curve is its points as numbers, x0, y0, x1, y1, ...: 8 numbers are a cubic, 12 a quintic, and any other count
+ * is YARD_LENGTH before anything else is looked at. Coordinates go from -20,000 to 20,000. c, q, kappa and w are
+ * those of D = kappa w^2 and |D|^2 = c q^2, D being the sum of the legs times their Bernstein functions, by powers
+ * of t, lowest first. */
+#ifndef YARD_H
+#define YARD_H
+
+#include <stddef.h>
+#include <stdint.h>
+
+#ifdef __cplusplus
+extern "C" {
+#endif
+
+/* The refusals. */
+enum {
+    YARD_TOO_LONG = 1,     /* the sheet has more than 4,096 bytes */
+    YARD_CUT = 2,          /* the sheet ends in the middle of a record */
+    YARD_LEFTOVER = 3,     /* a byte behind the erased part is not FF; its place is that byte */
+    YARD_KIND = 4,         /* a record is neither C3 nor C5 */
+    YARD_LENGTH = 5,       /* a record's length is not its kind's; or a wrong count of numbers was passed */
+    YARD_RANGE = 6,        /* a number is outside its range */
+    YARD_NUMBER = 7,       /* the sheet has no curve of that number; the first is 1 */
+    YARD_STILL = 8,        /* all points are equal, or all w are zero */
+    YARD_NOT_PH = 9,       /* the curve is not Pythagorean */
+    YARD_NO_PREIMAGE = 10, /* the curve is Pythagorean, but has no pre-image */
+    YARD_ROOT = 11,        /* c is not a square */
+    YARD_ROOM = 12,        /* the lent area, or the erased part of the sheet, is too short */
+    YARD_THIRDS = 13,      /* 2 w1^2 + w0 w2 has a part that 3 does not divide */
+    YARD_DEAD_END = 14     /* the first or the last leg is zero */
+};
+
+/* The verdicts: the first number that yard_recognise writes. */
+enum {
+    YARD_VERDICT_STILL = 0, /* all points are equal */
+    YARD_VERDICT_NO = 1,    /* not Pythagorean */
+    YARD_VERDICT_PH = 2,    /* Pythagorean, without a pre-image */
+    YARD_VERDICT_PRE = 3    /* Pythagorean, with a pre-image */
+};
+
+/* Sizes, in numbers or, of a sheet and a report, in bytes. */
+enum {
+    YARD_CUBIC_NUMBERS = 8,
+    YARD_QUINTIC_NUMBERS = 12,
+    YARD_CUBIC_PREIMAGE_NUMBERS = 4,
+    YARD_QUINTIC_PREIMAGE_NUMBERS = 6,
+    YARD_VERDICT_NUMBERS = 15,
+    YARD_LENGTH_NUMBERS = 3,
+    YARD_INFLECTION_NUMBERS = 5,
+    YARD_CUBIC_OFFSET_NUMBERS = 18,
+    YARD_QUINTIC_OFFSET_NUMBERS = 30,
+    YARD_TRIPLE_NUMBERS = 6,
+    YARD_JOIN_NUMBERS = 24,
+    YARD_FOUND_NUMBERS = 2,
+    YARD_SHEET_BYTES = 4096, /* the longest sheet */
+    YARD_REPORT_BYTES = 5321 /* no report is longer */
+};
+
+/* The number of the refusal that a call returned, and 0 of an answer. */
+static inline int yard_refusal(int64_t returned) {
+    return returned < 0 ? (int)(-returned % 32) : 0;
+}
+
+/* The place of the refusal that a call returned, and 0 of an answer. */
+static inline size_t yard_place(int64_t returned) {
+    return returned < 0 ? (size_t)(-returned / 32) : 0;
+}
+
+/* What a curve is. out: the verdict, c, q0 to q4, kappa (real, imaginary), b0, b1 and b2 of w (real, imaginary);
+ * what a verdict does not have, and a cubic's q3, q4 and b2, is 0. Returns 15.
+ * Refuses: LENGTH, RANGE, ROOM (below 15). */
+int64_t yard_recognise(const int64_t *p, size_t n, int64_t *out, size_t room);
+
+/* The length of a curve with a pre-image, which is exactly sqrt(c) A / B. out: c, A, B. Returns 3.
+ * Refuses: LENGTH, RANGE, STILL, NOT PH, NO PREIMAGE, ROOM (below 3). */
+int64_t yard_length(const int64_t *p, size_t n, int64_t *out, size_t room);
+
+/* Where a curve with a pre-image turns. out: the turning polynomial's coefficients t0, t1, t2, the count of
+ * inflections inside the curve, and 1 where the polynomial is zero throughout (the curve is straight), else 0.
+ * Returns 5.
+ * Refuses: LENGTH, RANGE, STILL, NOT PH, NO PREIMAGE, ROOM (below 5). */
+int64_t yard_inflections(const int64_t *p, size_t n, int64_t *out, size_t room);
+
+/* The offset of a curve at distance h, from -20,000 to 20,000: a rational curve with control points (W, X, Y). out:
+ * W0, X0, Y0, W1, ..., the Bernstein coefficients at degree 9 times 252, for a cubic at degree 5 times 10. Returns
+ * 30, for a cubic 18.
+ * Refuses: LENGTH, RANGE (a coordinate or h), STILL, NOT PH, NO PREIMAGE, ROOT, ROOM (below 30 or 18). */
+int64_t yard_offset(const int64_t *p, size_t n, int64_t h, int64_t *out, size_t room);
+
+/* The curve that begins at (x, y) and has the pre-image w: w0, w1 for a cubic (n = 4), and w2 too for a quintic
+ * (n = 6), each real before imaginary, from -200 to 200. out: the coordinates. Returns 8, for a quintic 12.
+ * Refuses: LENGTH (n), RANGE (x, y or w), STILL, THIRDS (a quintic), RANGE (a point of the curve), ROOM (below 8 or
+ * 12). */
+int64_t yard_build(int64_t x, int64_t y, const int64_t *w, size_t n, int64_t *out, size_t room);
+
+/* Every curve between two ends: the quintics of a pre-image w0, w1, w2 whose first leg is a, whose last leg is z and
+ * whose last point lies T from the first. Parts of a and z go from -20,000 to 20,000, those of T from -40,000 to
+ * 40,000. out: six numbers a triple, w0, w1, w2, real before imaginary, in ascending order of w2 and then of w1; of
+ * a triple and its negative, which are one curve, the one whose w0 has its first non-zero part positive. Returns
+ * the count of triples, 0 to 4.
+ * Refuses: RANGE, DEAD END, ROOM (below 24, however many there are). */
+int64_t yard_joins(int64_t ax, int64_t ay, int64_t zx, int64_t zy, int64_t tx, int64_t ty, int64_t *out, size_t room);
+
+/* Checks a sheet whole. Returns the count of its curves.
+ * Refuses: TOO LONG; then the first fault in sheet order, with its place: CUT, KIND, LENGTH, CUT, RANGE of a
+ * record, or LEFTOVER. */
+int64_t yard_check(const uint8_t *s, size_t len);
+
+/* The curve of a number, counted from 1. out: its coordinates. Returns 8 or 12.
+ * Refuses: as yard_check, NUMBER, ROOM (below 8 or 12). */
+int64_t yard_read(const uint8_t *s, size_t len, uint64_t number, int64_t *out, size_t room);
+
+/* The record of a curve, counted from 1. out: the place of its first byte, and how many bytes it has. Returns 2.
+ * Refuses: as yard_check, NUMBER, ROOM (below 2). */
+int64_t yard_find(const uint8_t *s, size_t len, uint64_t number, int64_t *out, size_t room);
+
+/* Makes every byte of a sheet FF. Returns 0.
+ * Refuses: TOO LONG. */
+int64_t yard_erase(uint8_t *s, size_t len);
+
+/* Writes a curve at the first erased place of a sheet, and changes no other byte. Returns 0.
+ * Refuses: LENGTH (n), as yard_check, RANGE, ROOM (the erased part is shorter than the record). RANGE of a
+ * coordinate has place 0. */
+int64_t yard_append(uint8_t *s, size_t len, const int64_t *p, size_t n);
+
+/* The report of a sheet: the area `text` holds it from its start and zeros behind it. Of a faulty sheet the report
+ * is the line `refused NUMBER at PLACE`. Returns how many bytes the text has, without the zeros.
+ * Refuses: ROOM (below that; 5,321 is always enough), and then the area is all zero. */
+int64_t yard_report(const uint8_t *s, size_t len, uint8_t *text, size_t room);
+
+#ifdef __cplusplus
+}
+#endif
+
+#endif

@@ -1,0 +1,195 @@
+//! The face's rules, on the document's cases and at the edges of areas and counts.
+
+use super::super::call::Areas;
+use super::*;
+
+fn told(function: Function, singles: [i64; 6], before: Areas) -> Answer {
+    answer(&Call {
+        function,
+        singles,
+        before,
+    })
+}
+
+fn on_curve(function: Function, points: &[(i64, i64)], h: i64, room: usize) -> Answer {
+    let before = Areas {
+        numbers: points.iter().flat_map(|&(x, y)| [x, y]).collect(),
+        out: vec![-7; room],
+        ..Areas::default()
+    };
+    told(function, [h, 0, 0, 0, 0, 0], before)
+}
+
+fn on_sheet(function: Function, sheet: &[u8], number: i64, room: usize) -> Answer {
+    let before = Areas {
+        sheet: sheet.to_vec(),
+        out: vec![-7; room],
+        text: vec![9; room],
+        ..Areas::default()
+    };
+    told(function, [number, 0, 0, 0, 0, 0], before)
+}
+
+fn is(answer: &Answer, returned: i64, out: &[i64]) {
+    let found = (answer.returned, &answer.after.out[..]);
+    assert_eq!(found, (returned, out));
+}
+
+const CASE_2: [(i64, i64); 4] = [(0, 0), (1, 0), (1, 1), (0, 1)];
+const CASE_3: [(i64, i64); 4] = [(0, 0), (1, 0), (1, 1), (2, 1)];
+const CASE_4: [(i64, i64); 4] = [(0, 0), (0, 0), (1, 0), (3, 0)];
+const CASE_6: [(i64, i64); 6] = [(0, 0), (6, 0), (12, 3), (17, 7), (23, 10), (29, 10)];
+
+#[test]
+fn verdicts() {
+    let of = |points, room| on_curve(Function::Recognise, points, 0, room);
+    is(
+        &of(&CASE_2, 16),
+        15,
+        &[3, 1, 1, -2, 2, 0, 0, 1, 0, -1, 0, 1, -1, 0, 0, 0],
+    );
+    is(
+        &of(&CASE_3, 15),
+        15,
+        &[1, 0, 0, 0, 0, 0, 0, 0, 0, 0, 0, 0, 0, 0, 0],
+    );
+    is(
+        &of(&CASE_4, 15),
+        15,
+        &[2, 4, 0, 1, 0, 0, 0, 0, 0, 0, 0, 0, 0, 0, 0],
+    );
+    is(
+        &of(&CASE_6, 15),
+        15,
+        &[3, 36, 1, 0, 1, -2, 1, 6, 0, -1, 0, 0, -1, 0, 1],
+    );
+    is(&of(&[(5, 5); 4], 15), 15, &[0; 15]);
+    is(&of(&CASE_2, 14), -12, &[0; 14]);
+    is(&of(&[(20_001, 0); 4], 14), -6, &[0; 14]);
+    is(&of(&CASE_6[..5], 20), -5, &[0; 20]);
+    is(&of(&[], 0), -5, &[]);
+}
+
+#[test]
+fn measures_and_offset() {
+    is(
+        &on_curve(Function::Length, &CASE_6, 0, 4),
+        3,
+        &[36, 62, 12, 0],
+    );
+    is(&on_curve(Function::Length, &CASE_3, 0, 2), -9, &[0; 2]);
+    is(&on_curve(Function::Length, &CASE_6, 0, 2), -12, &[0; 2]);
+    is(
+        &on_curve(Function::Inflections, &CASE_6, 0, 5),
+        5,
+        &[1, -2, 0, 1, 0],
+    );
+    is(
+        &on_curve(Function::Inflections, &CASE_4, 0, 5),
+        -10,
+        &[0; 5],
+    );
+    let line = [0, 1, 2, 3, 4, 5].map(|x| (x, 0));
+    let expected: Vec<i64> = (0..10).flat_map(|k| [252, 140 * k, -504]).collect();
+    let diagonal = [0, 1, 2, 3].map(|x| (x, x));
+    is(&on_curve(Function::Offset, &line, 2, 30), 30, &expected);
+    is(&on_curve(Function::Offset, &line, 2, 29), -12, &[0; 29]);
+    is(&on_curve(Function::Offset, &diagonal, 2, 1), -11, &[0]);
+}
+
+#[test]
+fn builds() {
+    let built = |w: &[i64], room| {
+        let (numbers, out) = (w.to_vec(), vec![5; room]);
+        let rest = Areas::default();
+        told(
+            Function::Build,
+            [0; 6],
+            Areas {
+                numbers,
+                out,
+                ..rest
+            },
+        )
+    };
+    is(&built(&[1, 0, 0, 1], 9), 8, &[0, 0, 1, 0, 1, 1, 0, 1, 0]);
+    is(&built(&[1, 0, 0, 1], 7), -12, &[0; 7]);
+    is(&built(&[1, 0, 0, 1, 1], 12), -5, &[0; 12]);
+    is(&built(&[1, 0, 1, 0, 2, 0], 12), -13, &[0; 12]);
+}
+
+#[test]
+fn joins_of_case_8() {
+    let joined = |ax, room| {
+        let (out, rest) = (vec![5; room], Areas::default());
+        told(Function::Joins, [ax, 0, 1, 0, 5, 0], Areas { out, ..rest })
+    };
+    let mut case_8 = vec![1, 0, -4, 0, 1, 0, 1, 0, 1, 0, 1, 0];
+    case_8.resize(25, 0);
+    is(&joined(1, 25), 2, &case_8);
+    is(&joined(1, 23), -12, &[0; 23]);
+    is(&joined(0, 23), -14, &[0; 23]);
+}
+
+/// A cubic with points all −1 behind a quintic with points all 0, and three erased bytes.
+fn two_records() -> Vec<u8> {
+    let first = [&[52, 0, b'C', b'5'][..], &[0; 48]].concat();
+    let second = [&[36, 0, b'C', b'3'][..], &[0xFF; 32]].concat();
+    [first, second, vec![0xFF; 3]].concat()
+}
+
+#[test]
+fn sheets_read() {
+    let sheet = two_records();
+    is(&on_sheet(Function::Check, &sheet, 0, 0), 2, &[]);
+    is(
+        &on_sheet(Function::Read, &sheet, 2, 9),
+        8,
+        &[-1, -1, -1, -1, -1, -1, -1, -1, 0],
+    );
+    is(&on_sheet(Function::Find, &sheet, 2, 3), 2, &[52, 36, 0]);
+    is(&on_sheet(Function::Find, &sheet, 1, 2), 2, &[0, 52]);
+    is(&on_sheet(Function::Find, &sheet, 3, 2), -7, &[0, 0]);
+    is(&on_sheet(Function::Find, &sheet, -1, 1), -7, &[0]);
+    is(&on_sheet(Function::Find, &sheet, 1, 1), -12, &[0]);
+    is(&on_sheet(Function::Read, &sheet, 1, 11), -12, &[0; 11]);
+    is(
+        &on_sheet(Function::Read, &sheet[..87], 1, 2),
+        -(2 + 32 * 52),
+        &[0; 2],
+    );
+}
+
+#[test]
+fn sheets_written() {
+    let (sheet, numbers) = (two_records(), vec![0; 8]);
+    let rest = Areas::default();
+    let before = Areas {
+        sheet,
+        numbers,
+        ..rest
+    };
+    let refused = told(Function::Append, [0; 6], before.clone());
+    assert_eq!((refused.returned, refused.after), (-12, before.clone()));
+    let erased = told(Function::Erase, [0; 6], before);
+    assert_eq!((erased.returned, erased.after.sheet), (0, vec![0xFF; 91]));
+    let long = on_sheet(Function::Erase, &[0; 4_097], 0, 0);
+    assert_eq!((long.returned, long.after.sheet), (-1, vec![0; 4_097]));
+}
+
+#[test]
+fn reports() {
+    let text = b"sheet 2\n1 C5 still\n2 C3 still\n";
+    let whole = on_sheet(Function::Report, &two_records(), 0, 31);
+    assert_eq!(
+        (whole.returned, whole.after.text),
+        (30, [&text[..], &[0]].concat())
+    );
+    let short = on_sheet(Function::Report, &two_records(), 0, 29);
+    assert_eq!((short.returned, short.after.text), (-12, vec![0; 29]));
+    let faulty = on_sheet(Function::Report, &two_records()[..87], 0, 16);
+    assert_eq!(
+        (faulty.returned, &faulty.after.text[..]),
+        (16, &b"refused 2 at 52\n"[..])
+    );
+}

@@ -1,0 +1,126 @@
+//! How often each outcome of each call was compared, so that a reader sees that every one of them was.
+
+use super::call::{Answer, Call, Function, FUNCTIONS};
+use crate::refusal::{
+    Refusal::{self, *},
+    NAMES,
+};
+
+const SHEET_FAULTS: [Refusal; 6] = [TooLong, Cut, Leftover, Kind, Length, Range];
+const VERDICTS: [&str; 4] = ["still", "no", "ph", "pre"];
+const TRIPLES: [&str; 5] = ["none", "one", "two", "three", "four"];
+const TURNS: [&str; 4] = ["none", "one", "two", "straight"];
+
+struct Row {
+    function: Function,
+    outcomes: Vec<(&'static str, u64)>,
+}
+
+/// A row for each function, with every outcome that it has.
+pub struct Tally {
+    rows: Vec<Row>,
+}
+
+impl Tally {
+    pub fn new() -> Tally {
+        let rows = FUNCTIONS.map(|(function, _)| {
+            let refusals = refusals(function)
+                .into_iter()
+                .map(|refusal| NAMES[refusal as usize - 1]);
+            let all = answers(function).iter().copied().chain(refusals);
+            let outcomes = all.map(|outcome| (outcome, 0)).collect();
+            Row { function, outcomes }
+        });
+        Tally { rows: rows.into() }
+    }
+
+    pub fn add(&mut self, call: &Call, answer: &Answer) {
+        let row = &mut self.rows[call.function as usize - 1];
+        let outcome = outcome(call, answer);
+        let met = row.outcomes.iter_mut().find(|(name, _)| *name == outcome);
+        met.expect("each function's outcomes are all listed").1 += 1;
+    }
+
+    /// A line for each function.
+    pub fn text(&self) -> String {
+        let line = |row: &Row| {
+            let sum: u64 = row.outcomes.iter().map(|(_, times)| times).sum();
+            let parts: Vec<String> = row
+                .outcomes
+                .iter()
+                .map(|(name, times)| format!("{name} {times}"))
+                .collect();
+            format!(
+                "{:<17}{sum:>8}: {}\n",
+                row.function.name(),
+                parts.join(", ")
+            )
+        };
+        self.rows.iter().map(line).collect()
+    }
+
+    /// The outcomes that no call had.
+    pub fn never_met(&self) -> Vec<String> {
+        let of_row = |row: &Row| {
+            let name = row.function.name();
+            let never = row.outcomes.iter().filter(|(_, times)| *times == 0);
+            never
+                .map(|(outcome, _)| format!("{name}: {outcome}"))
+                .collect::<Vec<_>>()
+        };
+        self.rows.iter().flat_map(of_row).collect()
+    }
+}
+
+/// The kinds of answer that are counted apart.
+fn answers(function: Function) -> &'static [&'static str] {
+    match function {
+        Function::Recognise => &VERDICTS,
+        Function::Inflections => &TURNS,
+        Function::Joins => &TRIPLES,
+        Function::Length | Function::Offset | Function::Build | Function::Read | Function::Find => {
+            &["cubic", "quintic"]
+        }
+        Function::Check => &["empty", "curves"],
+        Function::Erase | Function::Append => &["done"],
+        Function::Report => &["report", "fault"],
+    }
+}
+
+/// The refusals of each function, in order; a name that comes twice in an order stands once.
+fn refusals(function: Function) -> Vec<Refusal> {
+    match function {
+        Function::Recognise => vec![Length, Range, Room],
+        Function::Length | Function::Inflections => {
+            vec![Length, Range, Still, NotPh, NoPreimage, Room]
+        }
+        Function::Offset => vec![Length, Range, Still, NotPh, NoPreimage, Root, Room],
+        Function::Build => vec![Length, Range, Still, Thirds, Room],
+        Function::Joins => vec![Range, DeadEnd, Room],
+        Function::Check => SHEET_FAULTS.to_vec(),
+        Function::Read | Function::Find => [&SHEET_FAULTS[..], &[Number, Room]].concat(),
+        Function::Erase => vec![TooLong],
+        Function::Append => [&SHEET_FAULTS[..], &[Room]].concat(),
+        Function::Report => vec![Room],
+    }
+}
+
+fn outcome(call: &Call, answer: &Answer) -> &'static str {
+    if answer.returned < 0 {
+        return NAMES[(-answer.returned % 32) as usize - 1];
+    }
+    let out = &answer.after.out;
+    let which = match call.function {
+        Function::Recognise => out[0] as usize,
+        Function::Inflections => (if out[4] == 1 { 3 } else { out[3] }) as usize,
+        Function::Joins => answer.returned as usize,
+        Function::Length => usize::from(out[2] == 12),
+        Function::Offset => usize::from(answer.returned == 30),
+        Function::Build | Function::Read => usize::from(answer.returned == 12),
+        Function::Find => usize::from(out[1] == 52),
+        Function::Check => usize::from(answer.returned > 0),
+        Function::Erase | Function::Append => 0,
+        Function::Report => usize::from(answer.after.text.starts_with(b"refused")),
+    };
+    answers(call.function)[which]
+}
