@@ -19,12 +19,16 @@ build_c() {
 }
 
 # The check proves what the library stands on several crates at a time, and `rt staticlib` would prove it one by one.
-prepare_library() {
-    compiler=$(c_compiler)
-    find_tools
+prove_library() {
     announce staticlib/libyard.a yard
     toolchain check $(sed -n 's/^yard: *//p' "$home/crates.txt")
     toolchain staticlib yard
+}
+
+prepare_library() {
+    compiler=$(c_compiler)
+    find_tools
+    prove_library
     build_c compare/library.c
 }
 

@@ -5,6 +5,8 @@ mod calls;
 mod chance;
 mod ends;
 mod face;
+#[cfg(test)]
+mod plain_tests;
 mod shapes;
 mod sheets;
 mod tally;

@@ -1,0 +1,54 @@
+/* What the parts of the benchmark share: the inputs, and the calls that are held against the library's. */
+#ifndef BENCH_H
+#define BENCH_H
+
+#include "yard.h"
+
+enum { CURVES = 3000, ENDS = 2000, SHEETS = 8 };
+
+struct curve {
+    int64_t p[YARD_QUINTIC_NUMBERS];
+    size_t count; /* of numbers */
+    int64_t verdict;
+};
+
+struct ends {
+    int64_t a[2], z[2], travel[2];
+};
+
+extern struct curve curves[CURVES];
+extern struct ends ends[ENDS];
+extern uint8_t sheets[SHEETS][YARD_SHEET_BYTES];
+
+/* Fills the three above, with the same inputs in every run. */
+void draw_inputs(void);
+
+/* The plain versions in reference/src/plain; quick is with the quick refusal. */
+int64_t plain_recognise(const int64_t *p, size_t n, int64_t *out, size_t room);
+int64_t plain_recognise_quick(const int64_t *p, size_t n, int64_t *out, size_t room);
+int64_t plain_joins(int64_t ax, int64_t ay, int64_t zx, int64_t zy, int64_t tx, int64_t ty, int64_t *out, size_t room);
+int64_t plain_check(const uint8_t *s, size_t len);
+int64_t plain_report(const uint8_t *s, size_t len, uint8_t *text, size_t room);
+
+/* FLINT's, where it is installed. */
+int64_t flint_recognise(const int64_t *p, size_t n, int64_t *out, size_t room);
+
+/* A job as one of those who do it, and one pass of it over its inputs. */
+typedef void any_call(void);
+struct row {
+    const char *job, *who, *symbol;
+    any_call *call;
+    void (*pass)(const struct row *row);
+    int64_t verdict; /* of the curves that the pass is over; ALL for the whole mix */
+};
+enum { ALL = -1 };
+extern const struct row rows[];
+extern const size_t row_count;
+
+/* How many calls a pass makes. */
+size_t calls_of(const struct row *row);
+
+/* Whether all answers to the inputs are the same; says the first that are not. */
+int all_agree(void);
+
+#endif
