@@ -2,5 +2,6 @@
 pub mod Division
 pub mod Divisors
 pub mod Roots
+pub mod Halves
 pub mod Euclid
 pub mod Units

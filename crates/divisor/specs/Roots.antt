@@ -21,7 +21,7 @@ pub record HalfRoot (s r : ℤ) : Type 0 where
   pub none : ((k : ℕ) → k * k ≢ natAbs s / 2) → r ≡ pos 0
 
 pub record Candidate (z w : Pair) : Type 0 where
-  pub small : PartsWithin (2 ^ 16) w
+  pub small : PartsWithin (2 ^ 30) w
   pub first : pos 0 ≤ℤ w .re
   pub second : pos 0 ≤ℤ z .im → pos 0 ≤ℤ w .im
   pub finds : (r : Pair) → times r r ≡ z → times w w ≡ z

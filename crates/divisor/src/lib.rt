@@ -137,7 +137,7 @@ fn half_root(s: i64) -> i64
     }
 }
 
-// A root of z, if it has one: a root u + iv has u² + v² = |z| = n and u² − v² = x.
+// A root of z, if it has one: a root u + iv has u² + v² = |z| = n, u² − v² = x and 2uv = y.
 fn candidate(z: Pair, n: u64) -> Pair
     requires { ⌜ PartsWithin (2 ^ 30) z × (pos (n * n) ≡ norm z) ⌝ }
     ensures { λ w. ⌜ Candidate z w ⌝ }
@@ -146,11 +146,16 @@ fn candidate(z: Pair, n: u64) -> Pair
     let y = z.im;
     let m = n as i64;
     let u = half_root(m + x);
-    let v = half_root(m - x);
-    if y < 0 {
-        Pair { re: u, im: -v }
+    if u == 0 {
+        Pair {
+            re: 0,
+            im: half_root(m - x),
+        }
     } else {
-        Pair { re: u, im: v }
+        Pair {
+            re: u,
+            im: y / (u * 2),
+        }
     }
 }
 

@@ -1,19 +1,18 @@
 -- `divisor::kept` meets its contract.
 use mathlib.Core.Path.{_≡_, sym, ap, _∙_}
 use borrow.Author.Needs.{needs}
-use lib.Dec.{lit≤}
 use mir.Syntax.{w64}
 use mir.Val.{ofZ}
 use Rattle.whole.proofs.Machine.{same-bits}
 use Rattle.pair.specs.declared.Pair.{Pair}
 use Rattle.pair.specs.Pairs.{times}
-use Rattle.pair.proofs.Parts.{pair-equal, wider}
-use Rattle.divisor.proofs.Roots.{candidate-kept}
+use Rattle.pair.proofs.Parts.{pair-equal}
+use Rattle.divisor.proofs.Halves.{candidate-kept}
 use Rattle.divisor.proofs.kept.Statement.{statement}
 use Rattle.divisor.proofs.kept.Tie as tie
 
 product-requires : tie.Need-product-requires
-product-requires c κs = let h = wider (lit≤ tt) (c .pre .small) in (h, h)
+product-requires c κs = (c .pre .small, c .pre .small)
 
 module _ (c : tie.After-struct-told4) where
   abbrev t : tie.After-product
