@@ -15,6 +15,7 @@ pub mod Signs
 pub mod Squares
 pub mod Generators
 pub mod Norms
+pub mod Carried
 pub mod Once
 pub mod Moved
 pub mod Points

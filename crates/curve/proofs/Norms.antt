@@ -1,34 +1,36 @@
 -- The content of N from a generator of D.
 --   generated-content      D = κ w² with w primitive and κ not 0: |κ|² is the greatest common divisor of N
+--   generated-square-of    and |κ|² and |w|² are the c and q that the rules leave
 --   Reduced, reduced       D = κ w², not 0: it is so with a primitive w
---   content-norm           the content of N is the norm of D's greatest common divisor, by Gauss's lemma,
---   content-one            so where it is 1, D's pairs have no common divisor but units
-use mathlib.Core.Path.{_≡_, refl, sym, ap, _∙_}
+--   greatest-norm          D = g E with g its greatest common divisor: |g|² is that of N, by Gauss's lemma
+use mathlib.Core.Path.{_≡_, sym, ap, _∙_}
 use mathlib.Core.List.{List}
 use mathlib.Core.Logic.{_≢_}
-use lib.IntN.{pos, _*ℤ_}
-use Rattle.whole.specs.Poly.{at, Greatest, scaled, square}
+use lib.IntN.{_*ℤ_}
+use Rattle.whole.specs.Poly.{Same, Greatest, scaled, square}
 use Rattle.whole.specs.Number.{wholes}
 use Rattle.whole.proofs.Integers.{*ℤ-1}
-use Rattle.whole.proofs.Linear.{linear}
-use Rattle.whole.proofs.Divisor.{divides-trans}
 use Rattle.whole.proofs.Wholes.{wholes-ring}
 use Rattle.poly.specs.Terms.{Primitive}
+use Rattle.poly.proofs.Lists.{scaled-same, square-same}
 use Rattle.poly.proofs.Gauss.{primitive-product}
-use Rattle.poly.proofs.Content.{quotients, content, greatest-some, quotient-primitive, primitive-greatest}
+use Rattle.poly.proofs.Content.{quotients, greatest-some, quotient-primitive, primitive-greatest}
 use Rattle.poly.proofs.Squares.{square-quotient, square-multiple}
-use Rattle.poly.proofs.Wholes.{wholes-domain, wholes-bezout, content-once}
+use Rattle.poly.proofs.Wholes.{wholes-domain, wholes-bezout}
 use Rattle.pair.specs.declared.Pair.{Pair}
-use Rattle.pair.specs.Pairs.{pairs, times, norm, one}
-use Rattle.pair.proofs.Laws.{pairs-ring, pairs-domain, norm-times, norm-zero, norm-nonneg}
-use Rattle.divisor.specs.Quotients.{NormOfGreatest}
+use Rattle.pair.specs.Pairs.{pairs, times, norm}
+use Rattle.pair.proofs.Laws.{pairs-ring, pairs-domain, norm-times, norm-zero, norm-some}
 use Rattle.divisor.proofs.Euclid.{pairs-bezout}
-use Rattle.divisor.proofs.Units.{unit-norm, norm-unit}
-use Rattle.curve.specs.declared.Square.{Square}
+use Rattle.divisor.proofs.Units.{unit-norm}
+use Rattle.root.specs.declared.Quartic.{Quartic}
+use Rattle.root.specs.Roots.{quartic}
+use Rattle.root.specs.Pairs.{LeadKept}
+use Rattle.root.proofs.Leads.{lead-same}
 use Rattle.curve.specs.Curves.{squaredLength}
 use Rattle.curve.specs.Verdicts.{Still, Generated, SquareOf}
-use Rattle.curve.proofs.Lengths.{squaredLength-same, squaredLength-scaled, generated-squared}
+use Rattle.curve.proofs.Lengths.{squaredLength-same, squaredLength-scaled, squaredLength-lead-positive, generated-squared}
 use Rattle.curve.proofs.Conjugates.{squaredLength-primitive}
+use Rattle.curve.proofs.Signs.{first-top}
 
 pub generated-content : (D : List Pair) (κ : Pair) (w : List Pair) → κ ≢ pairs .none → Primitive pairs w → Generated D κ w
     → Greatest wholes (squaredLength D) (norm κ)
@@ -36,6 +38,15 @@ generated-content D κ w n h e =
     primitive-greatest wholes-ring wholes-bezout wholes-domain (squaredLength D) (square wholes (squaredLength w)) (norm κ) (λ z. n (norm-zero κ z))
     (primitive-product wholes-ring wholes-bezout (squaredLength w) (squaredLength w) (squaredLength-primitive w h) (squaredLength-primitive w h))
     (λ k. sym (generated-squared D κ w e k))
+
+pub generated-square-of : (D : List Pair) (κ : Pair) (w : List Pair) (q : Quartic) → κ ≢ pairs .none → Primitive pairs w → LeadKept w → Generated D κ w
+    → Same wholes (quartic q) (squaredLength w) → SquareOf D (record { c = norm κ; q = q })
+generated-square-of D κ w q n h l e s = record {
+  positive = norm-some κ n;
+  squared = λ k. generated-squared D κ w e k ∙ sym (scaled-same wholes-ring (norm κ) (square wholes (quartic q)) (square wholes (squaredLength w)) (square-same wholes-ring (quartic q) (squaredLength w) s) k);
+  content = generated-content D κ w n h e;
+  lead = lead-same (λ k. sym (s k)) (squaredLength-lead-positive (first-top l));
+}
 
 -- D = κ w² with w primitive, and |κ|² is that of D's greatest common divisor
 pub record Reduced (D : List Pair) (g : Pair) : Type 0 where
@@ -61,18 +72,9 @@ reduced D g κ w h n e =
       generated = λ k. sym (j k) ∙ square-multiple pairs-ring g (r .unit) E (r .root) (r .squared) k;
     }
 
-pub content-norm : (D : List Pair) (s : Square) → SquareOf D s → (Still D → ⊥) → NormOfGreatest D (s .c)
-content-norm D s h n g i =
-    let (E, j) = quotients pairs-ring g D (i .divides) in
-    let g-some : g ≢ pairs .none = greatest-some pairs-ring i n in
-    content-once (norm-nonneg g) (omega (linear, h .positive))
-    (primitive-greatest wholes-ring wholes-bezout wholes-domain (squaredLength D) (squaredLength E) (norm g) (λ z. g-some (norm-zero g z))
-    (squaredLength-primitive E (quotient-primitive pairs-ring pairs-domain E g-some i j))
-    (λ k. sym (squaredLength-scaled g E k) ∙ squaredLength-same (scaled pairs g E) D j k))
-    (h .content)
-
-pub content-one : (D : List Pair) (s : Square) → SquareOf D s → (Still D → ⊥) → s .c ≡ pos 1 → Greatest pairs D one
-content-one D s h n e =
-    let (g, i) = content pairs-ring pairs-bezout D in
-    let unit = norm-unit g (content-norm D s h n g i ∙ e) in
-    record { divides = λ k. norm-unit one refl (at pairs D k); greatest = λ d u. divides-trans pairs-ring (i .greatest d u) (unit one) }
+pub greatest-norm : (D E : List Pair) (g : Pair) → g ≢ pairs .none → Greatest pairs D g → Same pairs (scaled pairs g E) D
+    → Greatest wholes (squaredLength D) (norm g)
+greatest-norm D E g n h e =
+    primitive-greatest wholes-ring wholes-bezout wholes-domain (squaredLength D) (squaredLength E) (norm g) (λ z. n (norm-zero g z))
+    (squaredLength-primitive E (quotient-primitive pairs-ring pairs-domain E n h e))
+    (λ k. sym (squaredLength-scaled g E k) ∙ squaredLength-same (scaled pairs g E) D e k)

@@ -3,6 +3,7 @@
 --   legPolynomial-sizes        D's parts by powers, and
 --   legPolynomial-within       every one of them is at most 1,280,000 in size
 --   squaredLength-within       every coefficient of N is at most 10¹³ in size
+--   positive-size              a positive number is at least 1
 --   root-fourth                N = c q²: q has no power above the fourth,
 --   root-size                  no coefficient of √c q reaches 20,000,000,
 --   root-within                and none of q is larger
@@ -91,7 +92,7 @@ norm-most c a z e h = omega (
   mul-le-mul (h .im .size) (h .im .size),
 )
 
-positive-size : {c : ℤ} → pos 0 <ℤ c → 1 ≤ natAbs c
+pub positive-size : {c : ℤ} → pos 0 <ℤ c → 1 ≤ natAbs c
 positive-size {c} p = omega (linear, abs-parts c)
 
 -- c z² is at most that, and z is a norm

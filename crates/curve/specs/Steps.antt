@@ -2,13 +2,14 @@
 --   cubicPart, quinticPart     a part of D, from that part of the legs
 --   polynomial, Draws          the polynomial that the parts hold; that it is D of these points
 --   OfCurve D                  D is that of a curve in range
---   Squarely D l s             besides, l is its highest power, and N = c q²
 --   Slight                     a part of D of a curve in range: no coefficient above 1,280,000 in size
 --   NormsSquare, EndsSquare    |a|² |z|² is a square; so it is of the first and the last leg of these points
 --   IsHighest                  the highest power of a polynomial, or that it is 0
---   Leads, Content             a polynomial is not 0; the greatest common divisor of its coefficients
---   Divided                    a polynomial divided by c
---   PairShares, PairsDivided   a pair, and a polynomial of pairs, that g divides
+--   Carries D g                every common divisor of D's pairs divides g
+--   PairsDivided, IsPairsQuotient   D = g E; the quotient D / g, or that there is none
+--   FactorsOf, unfactored     D = g f, where g is the greatest common divisor of D's pairs; that product
+--   Known d l                  so d is factored, and D is that of a curve and has the highest power l
+--   GeneratorOf, IsGeneration  D = κ w² with a coprime w and the sign of the rule, all small; that, or that D is no κ w²
 --   TurnedRoot w v             v is i w or −i w, with the sign of the rule
 --   Normalised κ w p           p is κ w², with the signs of the rules
 use mathlib.Core.Path.{_≡_}
@@ -17,23 +18,25 @@ use mathlib.Core.Logic.{_≢_}
 use Prim.Native.Nat.{ℕ, _*_, _-_, _≤_}
 use lib.IntN.{ℤ, pos, negsuc, _-ℤ_, _*ℤ_}
 use lib.ListN.{length}
-use lib.Signed.{_<ℤ_}
 use Rattle.whole.specs.Number.{wholes, Within, FirstPositive}
 use Rattle.whole.specs.Poly.{at, Same, scaled, Divides, Greatest}
 use Rattle.pair.specs.declared.Pair.{Pair}
 use Rattle.pair.specs.Pairs.{pair, pairs, times, norm, PartsWithin, AllWithin}
 use Rattle.root.specs.declared.Quartic.{Quartic}
-use Rattle.root.specs.Search.{Each}
-use Rattle.root.specs.Pairs.{quadratic, LeadKept}
+use Rattle.root.specs.Pairs.{five, quadratic, LeadKept}
 use Rattle.poly.specs.Terms.{Top}
-use Rattle.root.specs.Roots.{Sized}
 use Rattle.curve.specs.declared.Highest.{Highest}
 use Rattle.curve.specs.declared.Highest.the-variants.{Power, Zero}
 use Rattle.curve.specs.declared.Legs.{Legs}
-use Rattle.curve.specs.declared.Square.{Square}
+use Rattle.curve.specs.declared.divisors.Factors.{Factors}
+use Rattle.curve.specs.declared.divisors.PairsQuotient.{PairsQuotient}
+use Rattle.curve.specs.declared.divisors.PairsQuotient.the-variants.{Whole, Fraction}
+use Rattle.curve.specs.declared.preimages.Generator.{Generator}
+use Rattle.curve.specs.declared.preimages.Generation.{Generation}
+use Rattle.curve.specs.declared.preimages.Generation.the-variants.{Found, None}
 use Rattle.curve.specs.declared.Preimage.{Preimage}
 use Rattle.curve.specs.Curves.{InRange, differences, legPolynomial}
-use Rattle.curve.specs.Verdicts.{SquareOf}
+use Rattle.curve.specs.Verdicts.{Generated, NotGenerated, Coprime}
 
 abbrev pub Coordinates : List ℤ → Type 0
 Coordinates [] = Unit {0}
@@ -74,40 +77,47 @@ abbrev pub IsHighest : List Pair → Highest → Type 0
 IsHighest D (Power k) = Top pairs D k × (k ≤ 4)
 IsHighest D Zero = Same pairs D []
 
-pub record Leads (p : List ℤ) : Type 0 where
-  pub power : ℕ
-  pub top : Top wholes p power
-
-pub record Content (p : List ℤ) (c : ℤ) : Type 0 where
-  pub positive : pos 0 <ℤ c
-  pub small : Within 10000000000000 c
-  pub greatest : Greatest wholes p c
-
-pub record Divided (N : List ℤ) (c : ℤ) (M : List ℤ) : Type 0 where
-  pub multiple : Same wholes (scaled wholes c M) N
-  pub sized : Each wholes Sized M
-
 pub record OfCurve (D : List Pair) : Type 0 where
   pub points : List Pair
   pub range : InRange points
   pub short : length points ≤ 6
   pub same : Same pairs D (legPolynomial points)
 
-pub record Squarely (D : List Pair) (l : ℕ) (s : Square) : Type 0 where
-  pub of-curve : OfCurve D
-  pub top : Top pairs D l
-  pub low : l ≤ 4
-  pub square-of : SquareOf D s
-
-pub record PairShares (a g : Pair) : Type 0 where
-  pub whole : Divides pairs g a
-  pub nonzero : g ≢ pairs .none
-  pub a-small : PartsWithin 1280000 a
-  pub g-small : PartsWithin 1280000 g
+abbrev pub Carries : List Pair → Pair → Type 0
+Carries D g = (d : Pair) → ((k : ℕ) → Divides pairs d (at pairs D k)) → Divides pairs d g
 
 pub record PairsDivided (D : List Pair) (g : Pair) (E : List Pair) : Type 0 where
   pub multiple : Same pairs (scaled pairs g E) D
   pub small : AllWithin 1280000 E
+
+abbrev pub IsPairsQuotient : List Pair → Pair → PairsQuotient → Type 0
+IsPairsQuotient D g (Whole f) = PairsDivided D g (five f)
+IsPairsQuotient D g Fraction = g ≢ pairs .none → ((k : ℕ) → Divides pairs g (at pairs D k)) → ⊥
+
+pub record FactorsOf (D : List Pair) (d : Factors) : Type 0 where
+  pub greatest : Greatest pairs D (d .g)
+  pub divided : PairsDivided D (d .g) (five (d .f))
+
+abbrev pub unfactored : Factors → List Pair
+unfactored d = scaled pairs (d .g) (five (d .f))
+
+pub record Known (d : Factors) (l : ℕ) : Type 0 where
+  pub of-curve : OfCurve (unfactored d)
+  pub factored : FactorsOf (unfactored d) d
+  pub top : Top pairs (unfactored d) l
+  pub low : l ≤ 4
+
+pub record GeneratorOf (D : List Pair) (s : Generator) : Type 0 where
+  pub generated : Generated D (s .k) (quadratic (s .w))
+  pub some : s .k ≢ pairs .none
+  pub factor-small : PartsWithin 1280000 (s .k)
+  pub small : AllWithin 20000 (quadratic (s .w))
+  pub lead : LeadKept (quadratic (s .w))
+  pub coprime : Coprime (quadratic (s .w))
+
+abbrev pub IsGeneration : List Pair → Generation → Type 0
+IsGeneration D (Found s) = GeneratorOf D s
+IsGeneration D None = NotGenerated D
 
 pub record TurnedRoot (w v : List Pair) : Type 0 where
   pub unit : Pair

@@ -1,43 +1,61 @@
 // What the pairs of D have in common, and D divided by it.
-use crate::Square;
 use divisor::PairQuotient;
+use divisor::gcd;
+use divisor::gcd_all;
 use divisor::quotient;
 use pair::Pair;
+use pair::is_zero;
+use pair::norm;
+use pair::sum;
 use root::pairs::Five;
 ghost use mathlib.Core.Path.{_≡_};
 ghost use mathlib.Core.Logic.{_≢_};
+ghost use Prim.Native.Nat.{_^_};
 ghost use Rattle.whole.specs.Number.{Tells};
-ghost use Rattle.whole.specs.Poly.{Greatest};
-ghost use Rattle.pair.specs.Pairs.{pairs, times, one, PartsWithin, AllWithin};
+ghost use Rattle.pair.specs.Pairs.{pairs, plus, one, PartsWithin, AllWithin};
 ghost use Rattle.root.specs.Pairs.{five};
-ghost use Rattle.curve.specs.Verdicts.{Still, SquareOf};
-ghost use Rattle.curve.specs.Steps.{PairShares, PairsDivided};
+ghost use Rattle.curve.specs.Verdicts.{Still};
+ghost use Rattle.curve.specs.Steps.{Carries, IsPairsQuotient, FactorsOf};
 
-// The greatest common divisor of D's pairs. Its norm is the content c of N.
-pub(crate) fn common(e: Five, s: Square) -> Pair
-    requires { ⌜ AllWithin 1280000 (five e) × (Still (five e) → ⊥) × SquareOf (five e) s ⌝ }
-    ensures { λ g. ⌜ Greatest pairs (five e) g ⌝ }
+// D = g f
+pub struct Factors {
+    pub g: Pair,
+    pub f: Five,
+}
+
+// A quotient of a polynomial by a pair, which has to have pairs again.
+pub enum PairsQuotient {
+    Whole(Five),
+    Fraction,
+}
+
+// D(1), the last leg.
+fn last_leg(e: Five) -> Pair
+    requires { ⌜ AllWithin 1280000 (five e) ⌝ }
+    ensures { λ r. ⌜ r ≡ plus (plus (plus (plus (e .e0) (e .e1)) (e .e2)) (e .e3)) (e .e4) ⌝ }
 {
-    let c = s.c;
-    if c == 1 {
-        return Pair { re: 1, im: 0 };
-    }
     let e0 = e.e0;
     let e1 = e.e1;
     let e2 = e.e2;
     let e3 = e.e3;
     let e4 = e.e4;
-    divisor::gcd_all([e0, e1, e2, e3, e4], c)
+    sum(sum(sum(sum(e0, e1), e2), e3), e4)
 }
 
-// a / g, which is a pair.
-fn pair_share(a: Pair, g: Pair) -> Pair
-    requires { ⌜ PairShares a g ⌝ }
-    ensures { λ r. ⌜ (times g r ≡ a) × PartsWithin 1280000 r ⌝ }
+// What the norms of the first and the last leg have in common, which a common divisor of D's pairs divides; 0 where it is too large for
+// Euclid's loop.
+fn of_ends(e: Five) -> Pair
+    requires { ⌜ AllWithin 1280000 (five e) ⌝ }
+    ensures { λ r. ⌜ Carries (five e) r × PartsWithin (2 ^ 30) r ⌝ }
 {
-    match quotient(a, g) {
-        PairQuotient::Whole(q) => q,
-        PairQuotient::None => Pair { re: 0, im: 0 },
+    let first = e.e0;
+    let n = whole::gcd(norm(first), norm(last_leg(e)));
+    if n > 1073741824 {
+        return Pair { re: 0, im: 0 };
+    }
+    Pair {
+        re: n as i64,
+        im: 0,
     }
 }
 
@@ -56,23 +74,75 @@ fn is_one(g: Pair) -> bool
     true
 }
 
-// A polynomial divided by the greatest common divisor of its pairs.
-pub(crate) fn pairs_divided(e: Five, g: Pair) -> Five
-    requires { ⌜ AllWithin 1280000 (five e) × Greatest pairs (five e) g × (g ≢ pairs .none) ⌝ }
-    ensures { λ r. ⌜ PairsDivided (five e) g (five r) ⌝ }
+// D / g, pair by pair.
+fn quotients(e: Five, g: Pair) -> PairsQuotient
+    requires { ⌜ AllWithin 1280000 (five e) × PartsWithin (2 ^ 30) g × (g ≢ pairs .none) ⌝ }
+    ensures { λ r. ⌜ IsPairsQuotient (five e) g r ⌝ }
 {
-    if is_one(g) {
-        return e;
-    }
     let a0 = e.e0;
     let a1 = e.e1;
     let a2 = e.e2;
     let a3 = e.e3;
     let a4 = e.e4;
-    let e0 = pair_share(a0, g);
-    let e1 = pair_share(a1, g);
-    let e2 = pair_share(a2, g);
-    let e3 = pair_share(a3, g);
-    let e4 = pair_share(a4, g);
-    Five { e0, e1, e2, e3, e4 }
+    let PairQuotient::Whole(e0) = quotient(a0, g) else {
+        return PairsQuotient::Fraction;
+    };
+    let PairQuotient::Whole(e1) = quotient(a1, g) else {
+        return PairsQuotient::Fraction;
+    };
+    let PairQuotient::Whole(e2) = quotient(a2, g) else {
+        return PairsQuotient::Fraction;
+    };
+    let PairQuotient::Whole(e3) = quotient(a3, g) else {
+        return PairsQuotient::Fraction;
+    };
+    let PairQuotient::Whole(e4) = quotient(a4, g) else {
+        return PairsQuotient::Fraction;
+    };
+    PairsQuotient::Whole(Five { e0, e1, e2, e3, e4 })
+}
+
+// D / g, which is D where g is 1, and nothing where g is 0.
+fn divided(e: Five, g: Pair) -> PairsQuotient
+    requires { ⌜ AllWithin 1280000 (five e) × PartsWithin (2 ^ 30) g ⌝ }
+    ensures { λ r. ⌜ IsPairsQuotient (five e) g r ⌝ }
+{
+    if is_zero(g) {
+        return PairsQuotient::Fraction;
+    }
+    if is_one(g) {
+        return PairsQuotient::Whole(e);
+    }
+    quotients(e, g)
+}
+
+// D = g f, with g from all of D's pairs and one that carries what they have in common.
+fn factored_from(e: Five, s: Pair) -> Factors
+    requires { ⌜ AllWithin 1280000 (five e) × (Still (five e) → ⊥) × Carries (five e) s × PartsWithin (2 ^ 30) s ⌝ }
+    ensures { λ r. ⌜ FactorsOf (five e) r ⌝ }
+{
+    let e0 = e.e0;
+    let e1 = e.e1;
+    let e2 = e.e2;
+    let e3 = e.e3;
+    let e4 = e.e4;
+    let g = gcd_all([e0, e1, e2, e3, e4], s);
+    match divided(e, g) {
+        PairsQuotient::Whole(f) => Factors { g, f },
+        PairsQuotient::Fraction => Factors { g, f: e },
+    }
+}
+
+// D = g f, where g is the greatest common divisor of D's pairs: mostly two of them and the ends decide it.
+pub(crate) fn factored(e: Five) -> Factors
+    requires { ⌜ AllWithin 1280000 (five e) × (Still (five e) → ⊥) ⌝ }
+    ensures { λ r. ⌜ FactorsOf (five e) r ⌝ }
+{
+    let e2 = e.e2;
+    let e4 = e.e4;
+    let g = gcd(e2, gcd(e4, of_ends(e)));
+    match divided(e, g) {
+        PairsQuotient::Whole(f) => Factors { g, f },
+        PairsQuotient::Fraction => factored_from(e, g),
+    }
 }

@@ -131,6 +131,33 @@ pub(crate) fn to_pairs(d: Legs) -> Five
     }
 }
 
+// A polynomial of pairs, by its parts.
+pub(crate) fn parts(e: Five) -> Legs
+    ensures { λ d. ⌜ polynomial d ≡ five e ⌝ }
+{
+    let e0 = e.e0;
+    let e1 = e.e1;
+    let e2 = e.e2;
+    let e3 = e.e3;
+    let e4 = e.e4;
+    Legs {
+        re: Quartic {
+            q0: e0.re,
+            q1: e1.re,
+            q2: e2.re,
+            q3: e3.re,
+            q4: e4.re,
+        },
+        im: Quartic {
+            q0: e0.im,
+            q1: e1.im,
+            q2: e2.im,
+            q3: e3.im,
+            q4: e4.im,
+        },
+    }
+}
+
 // The highest power of a polynomial.
 pub(crate) fn degree(e: Five) -> Highest
     ensures { λ r. ⌜ IsHighest (five e) r ⌝ }

@@ -1,26 +1,22 @@
 // Planar cubics and quintics with whole points, and the verdict on each.
-mod contents;
 mod divisors;
 mod drawing;
 mod ends;
 mod preimages;
 mod ranges;
+mod speeds;
 
-use contents::content;
-use contents::divided;
-use contents::squared_length;
+use divisors::factored;
 use drawing::degree;
 pub use drawing::drawn;
 use drawing::to_pairs;
 use ends::ends_are_square;
 use pair::Pair;
-use preimages::generator;
+use preimages::judged;
 pub use ranges::in_range;
 use refusal::Refusal;
 use root::Quartic;
-use root::WholeRoot;
 use root::pairs::Quadratic;
-use root::whole_root;
 ghost use Rattle.curve.specs.Curves.{pointsOf};
 ghost use Rattle.curve.specs.Verdicts.{Holds};
 ghost use Rattle.curve.specs.Promise.{Recognised, Preimaged};
@@ -94,12 +90,7 @@ fn decide(d: Legs) -> Verdict
     let Highest::Power(l) = degree(e) else {
         return Verdict::Still;
     };
-    let n = squared_length(d);
-    let c = content(n);
-    let WholeRoot::Root(q) = whole_root(divided(n, c), l) else {
-        return Verdict::No;
-    };
-    generator(e, l, Square { c, q })
+    judged(factored(e), l)
 }
 
 // Whether a curve is Pythagorean, and if so by which numbers.

@@ -1,25 +1,42 @@
-// Whether D is k w^2, where N is a square, and the k and w that the rules leave.
+// Whether D is k w^2, or N at least c q^2, and the numbers that the rules leave.
 use crate::Preimage;
 use crate::Square;
 use crate::Verdict;
-use crate::divisors::common;
-use crate::divisors::pairs_divided;
+use crate::divisors::Factors;
+use crate::drawing::parts;
+use crate::speeds::speed;
+use crate::speeds::squared_length;
 use pair::Pair;
 use pair::is_zero;
 use pair::negative;
+use pair::norm;
 use pair::turned;
+use root::WholeRoot;
 use root::pairs::Five;
 use root::pairs::PairRoot;
 use root::pairs::Quadratic;
 use root::pairs::pair_root;
+use root::whole_root;
 ghost use mathlib.Core.Path.{_≡_};
 ghost use mathlib.Core.Logic.{_≢_};
 ghost use Rattle.whole.specs.Number.{FirstPositive, Tells};
-ghost use Rattle.whole.specs.Poly.{Same, Greatest, scaled};
+ghost use Rattle.whole.specs.Poly.{Same, scaled, square};
 ghost use Rattle.pair.specs.Pairs.{pairs, imaginary, PartsWithin, AllWithin};
 ghost use Rattle.root.specs.Pairs.{five, quadratic, LeadKept};
-ghost use Rattle.curve.specs.Verdicts.{Holds};
-ghost use Rattle.curve.specs.Steps.{Squarely, TurnedRoot, Normalised};
+ghost use Rattle.curve.specs.Verdicts.{Coprime, NotGenerated, Holds};
+ghost use Rattle.curve.specs.Steps.{unfactored, Known, IsGeneration, TurnedRoot, Normalised};
+
+// D = k w^2
+pub struct Generator {
+    pub k: Pair,
+    pub w: Quadratic,
+}
+
+// A generator, or that there is none.
+pub enum Generation {
+    Found(Generator),
+    None,
+}
 
 // i e
 fn turned_five(e: Five) -> Five
@@ -119,26 +136,57 @@ fn normalised(k: Pair, w: Quadratic, s: Square) -> Preimage
     }
 }
 
-// The verdict on D = g f, where N is a square and g holds all that the pairs of D have in common: whether f or i f is a square.
-fn rooted(e: Five, l: u64, s: Square, g: Pair) -> Verdict
-    requires { ⌜ Squarely (five e) l s × Greatest pairs (five e) g × (g ≢ pairs .none) ⌝ }
-    ensures { λ v. ⌜ Holds (five e) v ⌝ }
+// The verdict on k w^2, where w has no common divisor: N is |k|^2 times the square of |w|^2.
+fn generated(k: Pair, w: Quadratic) -> Verdict
+    requires { ⌜ PartsWithin 1280000 k × (k ≢ pairs .none) × AllWithin 20000 (quadratic w) × LeadKept (quadratic w) × Coprime (quadratic w) ⌝ }
+    ensures { λ v. ⌜ Holds (scaled pairs k (square pairs (quadratic w))) v ⌝ }
 {
-    let f = pairs_divided(e, g);
-    let PairRoot::Root(w) = pair_root(f, l) else {
-        let PairRoot::Root(v) = pair_root(turned_five(f), l) else {
-            return Verdict::Ph(s);
-        };
-        let k = negative(turned(g));
-        return Verdict::Pre(normalised(k, v, s));
+    let s = Square {
+        c: norm(k),
+        q: speed(w),
     };
-    Verdict::Pre(normalised(g, w, s))
+    Verdict::Pre(normalised(k, w, s))
 }
 
-// The verdict on a D whose N is a square: whether D has a pre-image too.
-pub(crate) fn generator(e: Five, l: u64, s: Square) -> Verdict
-    requires { ⌜ Squarely (five e) l s ⌝ }
-    ensures { λ v. ⌜ Holds (five e) v ⌝ }
+// The verdict on D = g f that is no k w^2: N is |g|^2 |f|^2, and |f|^2 has no common divisor.
+fn squared(d: Factors, l: u64) -> Verdict
+    requires { ⌜ Known d l × NotGenerated (unfactored d) ⌝ }
+    ensures { λ v. ⌜ Holds (unfactored d) v ⌝ }
 {
-    rooted(e, l, s, common(e, s))
+    let g = d.g;
+    let f = d.f;
+    let WholeRoot::Root(q) = whole_root(squared_length(parts(f)), l) else {
+        return Verdict::No;
+    };
+    Verdict::Ph(Square { c: norm(g), q })
+}
+
+// The k and w of D = g f, whose highest power is l: g and the root of f, or -i g and that of i f.
+fn generator_of(d: Factors, l: u64) -> Generation
+    requires { ⌜ Known d l ⌝ }
+    ensures { λ r. ⌜ IsGeneration (unfactored d) r ⌝ }
+{
+    let g = d.g;
+    let f = d.f;
+    let PairRoot::Root(w) = pair_root(f, l) else {
+        let PairRoot::Root(v) = pair_root(turned_five(f), l) else {
+            return Generation::None;
+        };
+        let k = negative(turned(g));
+        return Generation::Found(Generator { k, w: v });
+    };
+    Generation::Found(Generator { k: g, w })
+}
+
+// The verdict on D = g f, whose highest power is l.
+pub(crate) fn judged(d: Factors, l: u64) -> Verdict
+    requires { ⌜ Known d l ⌝ }
+    ensures { λ v. ⌜ Holds (unfactored d) v ⌝ }
+{
+    let Generation::Found(s) = generator_of(d, l) else {
+        return squared(d, l);
+    };
+    let k = s.k;
+    let w = s.w;
+    generated(k, w)
 }

@@ -3,27 +3,22 @@
 --   greatest-zero      a greatest common divisor is 0 only where every pair is 0, and there it is
 --   greatest-within    it is no larger than the pairs are
 --   greatest-unit      two of them differ by a unit
---   same-norm-divides  a divisor of the same norm is a multiple too
 use mathlib.Core.Path.{_≡_, sym, ap, _∙_, subst}
 use mathlib.Core.List.{List, []}
-use mathlib.Core.Logic.{_≢_, _↔_, ⊎-elim}
+use mathlib.Core.Logic.{_↔_, ⊎-elim}
 use Prim.Native.Nat.{ℕ}
 use lib.IntN.{pos, ℤ-discrete}
 use Rattle.whole.specs.Poly.{at, Same, Divides, Greatest}
 use Rattle.whole.proofs.Divisor.{divides-self, divides-none}
 use Rattle.whole.proofs.Ring.{none-times}
-use Rattle.whole.proofs.Integers.{*ℤ-1}
-use Rattle.whole.proofs.Wholes.{wholes-ring}
 use Rattle.poly.specs.Terms.{IsUnit}
 use Rattle.poly.proofs.Top.{find-top}
 use Rattle.poly.proofs.Divisibility.{unit-of-one}
-use Rattle.poly.proofs.Domain.{times-cancel}
 use Rattle.poly.proofs.Content.{greatest-associates}
-use Rattle.poly.proofs.Wholes.{wholes-domain}
 use Rattle.pair.specs.declared.Pair.{Pair}
-use Rattle.pair.specs.Pairs.{pair, pairs, times, conjugate, norm, one, PartsWithin, AllWithin}
+use Rattle.pair.specs.Pairs.{pairs, times, one, PartsWithin, AllWithin}
 use Rattle.pair.proofs.Parts.{pair-equal, zero-within}
-use Rattle.pair.proofs.Laws.{times-one, norm-times, norm-zero, times-conjugate, pairs-ring, pairs-domain}
+use Rattle.pair.proofs.Laws.{times-one, pairs-ring, pairs-domain}
 use Rattle.divisor.proofs.Division.{divisor-within}
 
 pub pair-zero? : (a : Pair) → Dec (a ≡ pairs .none)
@@ -53,16 +48,3 @@ greatest-unit {g} {h} k l = by (pair-zero? g)
     by : Dec (g ≡ pairs .none) → (u : Pair) × IsUnit pairs u × (times g u ≡ h)
     by (yes e) = (one, unit-of-one pairs-ring (divides-self pairs-ring one), times-one g ∙ e ∙ sym (greatest-zero l .1 (greatest-zero k .0 e)))
     by (no n) = greatest-associates pairs-ring pairs-domain n k l
-
-pub same-norm-divides : {a b : Pair} → a ≢ pairs .none → Divides pairs a b → norm a ≡ norm b → Divides pairs b a
-same-norm-divides {a} {b} n h e = record {
-  factor = conjugate k;
-  is = ap (λ x. times x (conjugate k)) (sym (h .is)) ∙ pairs-ring .times-assoc a k (conjugate k) ∙ ap (times a) (times-conjugate k ∙ ap (λ m. pair m (pos 0)) one-norm) ∙ times-one a;
-}
-  where
-    k : Pair
-    k = h .factor
-
-    one-norm : norm k ≡ pos 1
-    one-norm =
-        times-cancel wholes-ring wholes-domain (norm a) (norm k) (pos 1) (λ z. n (norm-zero a z)) (sym (norm-times a k) ∙ ap norm (h .is) ∙ sym e ∙ sym (*ℤ-1 (norm a)))

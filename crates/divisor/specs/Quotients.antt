@@ -1,18 +1,12 @@
 -- What the quotients and the common divisors of pairs promise.
---   IsPairQuotient       the exact quotient a / b, or that there is none
---   NearestPair a b q    each part of q is the whole number nearest to that part of a / b, which is a conj(b) over |b|²; halves go down
---   NormOfGreatest ps c  c is the norm of their greatest common divisors
---   Begins c g           g is c or 0, and small
---   Rest a b r           what a nearest quotient leaves over
+--   IsPairQuotient     the exact quotient a / b, or that there is none
+--   NearestPair a b q  each part of q is the whole number nearest to that part of a / b, which is a conj(b) over |b|²; halves go down
+--   Rest a b r         what a nearest quotient leaves over
 use mathlib.Core.Path.{_≡_}
-use mathlib.Core.List.{List}
-use mathlib.Core.Logic.{_⊎_}
-use Prim.Native.Nat.{_^_}
-use lib.IntN.{ℤ, pos}
-use Rattle.whole.specs.Poly.{Divides, Greatest}
+use Rattle.whole.specs.Poly.{Divides}
 use Rattle.whole.specs.Quotients.{Nearest}
 use Rattle.pair.specs.declared.Pair.{Pair}
-use Rattle.pair.specs.Pairs.{pair, pairs, minus, times, conjugate, norm, PartsWithin}
+use Rattle.pair.specs.Pairs.{pairs, minus, times, conjugate, norm}
 use Rattle.divisor.specs.declared.PairQuotient.{PairQuotient}
 use Rattle.divisor.specs.declared.PairQuotient.the-variants.{Whole, None}
 
@@ -23,13 +17,6 @@ IsPairQuotient a b None = Divides pairs b a → ⊥
 pub record NearestPair (a b q : Pair) : Type 0 where
   pub re : Nearest (times a (conjugate b) .re) (norm b) (q .re)
   pub im : Nearest (times a (conjugate b) .im) (norm b) (q .im)
-
-abbrev pub NormOfGreatest : List Pair → ℤ → Type 0
-NormOfGreatest ps c = (g : Pair) → Greatest pairs ps g → norm g ≡ c
-
-pub record Begins (c : ℤ) (g : Pair) : Type 0 where
-  pub small : PartsWithin (2 ^ 30) g
-  pub is : (g ≡ pair c (pos 0)) ⊎ (g ≡ pairs .none)
 
 pub record Rest (a b r : Pair) : Type 0 where
   pub quotient : Pair

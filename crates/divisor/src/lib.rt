@@ -11,11 +11,11 @@ ghost use mathlib.Core.List.{_∷_, []};
 ghost use mathlib.Core.Logic.{_≢_};
 ghost use Prim.Native.Nat.{_*_, _^_};
 ghost use lib.IntN.{pos};
-ghost use lib.Signed.{_≤ℤ_, _<ℤ_};
+ghost use lib.Signed.{_≤ℤ_};
 ghost use Rattle.whole.specs.Number.{Within};
 ghost use Rattle.whole.specs.Poly.{Greatest};
 ghost use Rattle.pair.specs.Pairs.{pairs, times, conjugate, norm, PartsWithin, AllWithin};
-ghost use Rattle.divisor.specs.Quotients.{IsPairQuotient, NearestPair, NormOfGreatest, Begins, Rest};
+ghost use Rattle.divisor.specs.Quotients.{IsPairQuotient, NearestPair, Rest};
 ghost use Rattle.divisor.specs.Roots.{HalfRoot, Candidate, IsPairRoot};
 
 // A quotient that has to be a pair.
@@ -97,28 +97,14 @@ pub fn gcd(a: Pair, b: Pair) -> Pair
     x
 }
 
-// A multiple of a pair of norm c, to begin with: c, or 0 where c is too large for Euclid's loop.
-fn first(c: i64) -> Pair
-    requires { ⌜ pos 0 <ℤ c ⌝ }
-    ensures { λ g. ⌜ Begins c g ⌝ }
+// The greatest common divisor of a pair and five more.
+pub fn gcd_all(ps: [Pair; 5], first: Pair) -> Pair
+    requires { ⌜ AllWithin (2 ^ 30) ps × PartsWithin (2 ^ 30) first ⌝ }
+    ensures { λ g. ⌜ Greatest pairs (first ∷ ps) g ⌝ }
 {
-    if c > 1073741824 {
-        return Pair { re: 0, im: 0 };
-    }
-    Pair { re: c, im: 0 }
-}
-
-// The greatest common divisor of five pairs, whose norm is c: that of some of them, if it has this norm, is that of all.
-pub fn gcd_all(ps: [Pair; 5], c: i64) -> Pair
-    requires { ⌜ AllWithin (2 ^ 30) ps × (pos 0 <ℤ c) × NormOfGreatest ps c ⌝ }
-    ensures { λ g. ⌜ Greatest pairs ps g ⌝ }
-{
-    let mut g = first(c);
+    let mut g = first;
     let mut i: usize = 0;
     while i < 5 {
-        if norm(g) == c {
-            return g;
-        }
         let p = ps[i];
         g = gcd(p, g);
         i += 1;

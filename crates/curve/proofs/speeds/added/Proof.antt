@@ -1,4 +1,4 @@
--- `contents::added` meets its contract.
+-- `speeds::added` meets its contract.
 use mathlib.Core.Path.{_≡_, refl}
 use mathlib.Core.List.{[], _∷_}
 use Prim.Native.Nat.{ℕ}
@@ -10,8 +10,8 @@ use Rattle.whole.specs.Number.{wholes, Within}
 use Rattle.whole.proofs.Wholes.{readℤ}
 use Rattle.whole.proofs.Bound.{done, _▸_, bounds, fits, kept}
 use Rattle.root.specs.Roots.{nine}
-use Rattle.curve.proofs.contents.added.Statement.{statement}
-use Rattle.curve.proofs.contents.added.Tie as tie
+use Rattle.curve.proofs.speeds.added.Statement.{statement}
+use Rattle.curve.proofs.speeds.added.Tie as tie
 
 -- one coefficient
 module _ {x y : ℤ} (h : Within 10000000000000 x) (k : Within 10000000000000 y) where
