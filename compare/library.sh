@@ -11,11 +11,12 @@ c_compiler() {
     exit 127
 }
 
-# A program in C with the library, in the room. It is linked statically, so that it runs by itself or under the emulator alone.
+# A program in C with the library, in the room. It is linked statically, so that it runs by itself or under the emulator alone. A root is
+# one instruction and not a call: Debian's static library of such calls cannot be linked for another processor.
 build_c() {
     name=$(basename "$1" .c)
-    "$compiler" -std=c99 -O2 -Wall -Wextra -static -I"$home/include" -o "$room/$name" "$home/$1" \
-        "$home/target/staticlib/libyard.a" -lm
+    "$compiler" -std=c99 -O2 -fno-math-errno -Wall -Wextra -static -I"$home/include" -o "$room/$name" "$home/$1" \
+        "$home/target/staticlib/libyard.a"
 }
 
 # The check proves what the library stands on several crates at a time, and `rt staticlib` would prove it one by one.
