@@ -17,8 +17,7 @@ use curve::Verdict;
 use curve::recognise;
 use measure::LengthAnswer;
 use measure::length_by;
-use sheet::Reading;
-use sheet::read;
+use sheet::read_at;
 use whole::size;
 
 fn put_kind(area: &mut [u8], place: Place, curve: Curve) -> Place
@@ -68,18 +67,18 @@ fn put_line(area: &mut [u8], place: Place, number: usize, curve: Curve) -> Place
     put(area, verdict, b"\n")
 }
 
-// The lines of a sound sheet's curves, of which there are `count`.
+// The lines of a sound sheet's curves, of which there are `count`, in one pass from record to record.
 pub(crate) fn put_lines(area: &mut [u8], place: Place, sheet: &[u8], count: usize) -> Place
     requires { ⌜ with-given length (outcome (now sheet)) ≡ given count ⌝ }
     ensures { λ r. ⌜ WritesLines (now (area .entry)) place (now (sheet .entry)) count (now (area .exit)) r ⌝ }
 {
     let mut at = place;
+    let mut next: usize = 0;
     let mut k: usize = 0;
     while k < count {
-        let Reading::Points(curve) = read(sheet, k + 1) else {
-            // A number up to the count is not refused.
-            return at;
-        };
+        let record = read_at(sheet, next);
+        let curve = record.curve;
+        next = record.end;
         k += 1;
         at = put_line(area, at, k, curve);
     }

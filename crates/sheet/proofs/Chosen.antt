@@ -2,10 +2,9 @@
 --   nth-whole       it is refused, or it is a whole record
 --   whole-long      a whole record is not empty
 --   none-chosen     an empty part: there is no such record
---   one-chosen      any other part is the record, whole
---   none-placed, one-placed    so it stands nowhere, or there
+--   none-placed, one-placed    so it stands nowhere; any other part is the record, and it stands there
 --   cubic-long, quintic-long   how long a record is, by its kind's name
-use mathlib.Core.Path.{_≡_, refl, sym, ap, _∙_, subst}
+use mathlib.Core.Path.{_≡_, refl, sym, ap, _∙_}
 use mathlib.Core.Bool.{true, false, false≢true}
 use mathlib.Core.Logic.{_⊎_, inl, inr, ⊎-elim}
 use mathlib.Core.List.{List, [], _∷_}
@@ -57,16 +56,14 @@ module _ {s : List ℕ} {number : ℕ} {l : Listing} (h : Lists s number l) wher
       absurd (omega (arith, whole-long (g .2), ap length q, found-long)))
       whole
 
-  pub one-chosen : (l .from ≡ l .to → ⊥) → (chosen number (outcome s) ≡ given (take (l .to - l .from) (drop (l .from) s))) × Whole (take (l .to - l .from) (drop (l .from) s))
+  one-chosen : (l .from ≡ l .to → ⊥) → chosen number (outcome s) ≡ given found
   unfolding found
   one-chosen n =
       ⊎-elim
       (λ g.
       let q : found ≡ [] = h .part-is ∙ ap part g in
       absurd (n (omega (arith, ap length q, found-long, h .forward))))
-      (λ g.
-      let q : found ≡ g .0 = h .part-is ∙ ap part (g .1) in
-      (chosen-is ∙ g .1 ∙ ap given (sym q), subst Whole (sym q) (g .2)))
+      (λ g. chosen-is ∙ g .1 ∙ ap given (sym (h .part-is ∙ ap part (g .1))))
       whole
 
   placed-as : {a : Answer (List ℕ)} → chosen number (outcome s) ≡ a → placed number (outcome s) ≡ with-given (λ x. total (earlier number (h .records)) ∷ length x ∷ []) a
@@ -78,7 +75,7 @@ module _ {s : List ℕ} {number : ℕ} {l : Listing} (h : Lists s number l) wher
   pub one-placed : (l .from ≡ l .to → ⊥) → placed number (outcome s) ≡ given (l .from ∷ (l .to - l .from) ∷ [])
   unfolding found
   one-placed n =
-      let g = one-chosen n .0 in
+      let g = one-chosen n in
       let at : total (earlier number (h .records)) ≡ l .from = sym (h .from-is found (sym chosen-is ∙ g)) in
       placed-as g ∙ (λ i. given (at i ∷ found-long i ∷ []))
 

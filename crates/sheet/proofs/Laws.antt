@@ -1,9 +1,8 @@
 -- What follows from the promises: how the calls agree with one another.
 --   Refuses          an answer of `read` that is a refusal
 --   find-read        `find` gives an empty part where `read` refuses, and otherwise the part whose points `read` gives
---   chosen-placed    a record that is found is a part of the sheet, behind the earlier ones
---   located-found    so what `locate` names is within the sheet's 4,096 bytes, and is the part that `find` gives
---   chosen-in-range  its points are in range
+--   located-found    what `locate` names is within the sheet's 4,096 bytes, and is the part that `find` gives
+--   chosen-in-range  the points of a record that is found are in range
 --   no-curve, no-room   the causes of NUMBER and of ROOM
 --   read-order       on a sound sheet read refuses NUMBER exactly where no curve has the number
 --   append-order     on a sound sheet append refuses RANGE exactly where a point is out of range, and else ROOM exactly where the tail is too short
@@ -13,11 +12,10 @@
 use mathlib.Core.Path.{_≡_, refl, sym, ap, _∙_, subst}
 use mathlib.Core.Bool.{true≢false}
 use mathlib.Core.Logic.{_↔_, _⊎_, inl, inr, ⊎-elim}
-use mathlib.Core.List.{List, [], _∷_, _++_, append-assoc}
+use mathlib.Core.List.{List, [], _∷_, _++_}
 use Prim.Native.Nat.{ℕ, zero, suc, _+_, _-_, _/_, _≤_, _<_}
 use native.Mathlib.Omega.{arith}
 use lib.ListN.{length, take, drop, length-append}
-use lib.Seq.{take-at, drop-at}
 use borrow.Author.Tests.{not-true, not-false, ltb-true, ltb-false}
 use Rattle.refusal.specs.declared.Refusal.the-variants as refusal
 use Rattle.refusal.specs.Table.{Cause, First}
@@ -26,33 +24,22 @@ use Rattle.curve.specs.Curves.{pointsOf, InRange}
 use Rattle.curve.specs.Promise.{out-of-range}
 use Rattle.sheet.specs.Numbers.{coordinates, paired}
 use Rattle.sheet.specs.Kinds.{kindOf}
-use Rattle.sheet.specs.Sheets.{Answer, refused, given, with-given, outcome, nth, chosen, earlier, placed, pointsIn, numberOfAnswer, total, appendingAt, appendingTo, appending}
+use Rattle.sheet.specs.Sheets.{Answer, refused, given, with-given, outcome, nth, chosen, pointsIn, numberOfAnswer, total, appendingAt, appendingTo, appending}
 use Rattle.sheet.specs.Promises.{answerOfReading, part, Reads, Locates, Finds}
 use Rattle.sheet.specs.declared.Reading.{Reading}
 use Rattle.sheet.specs.declared.Reading.the-variants as reading
 use Rattle.sheet.specs.declared.Location.the-variants as location
 use Rattle.sheet.proofs.Answers.{no-answer}
 use Rattle.sheet.proofs.Choose.{by-test}
-use Rattle.sheet.proofs.Shown.{Whole, sizes}
+use Rattle.sheet.proofs.Shown.{sizes}
 use Rattle.sheet.proofs.Outcomes.{Records, flat, total-is, sound-of}
 use Rattle.sheet.proofs.Passed.{nth-last, nth-other}
-use Rattle.sheet.proofs.Chosen.{nth-whole, whole-long}
+use Rattle.sheet.proofs.Chosen.{whole-long}
+use Rattle.sheet.proofs.Places.{chosen-whole, stands}
 use Rattle.sheet.proofs.Formed.{recordOf, record-points, range-is, range-paired}
 use Rattle.sheet.proofs.Appended.{outcome-after}
 
 -- ---- find and read
-
-chosen-from : (s : List ℕ) (number : ℕ) (a : Records) (x : List ℕ) → outcome s ≡ a → chosen number a ≡ given x → (rs : List (List ℕ)) × (outcome s ≡ given rs) × (nth number rs ≡ given x)
-chosen-from s number (refused n p) x o e = no-answer (sym e)
-chosen-from s number (given rs) x o e = (rs, o, e)
-
-chosen-whole : (s : List ℕ) (number : ℕ) (x : List ℕ) → chosen number (outcome s) ≡ given x → Whole x
-chosen-whole s number x e =
-    let f = chosen-from s number (outcome s) x refl e in
-    ⊎-elim
-    (λ n. no-answer (sym (f .2) ∙ n))
-    (λ g. let q : g .0 ≡ x = cc (g .1, f .2) in subst Whole q (g .2))
-    (nth-whole number (f .0) (sound-of s (f .0) (f .1) .1 .all))
 
 abbrev pub Refuses : Reading → Type 0
 Refuses (reading.Points c) = ⊥
@@ -74,51 +61,9 @@ find-read s number r x = go r (chosen number (outcome s)) refl
     go (reading.Refused r p) (refused n m) q e f = ((λ _. tt, λ _. f), λ c d. let z : _≡_ {A = ℕ} 0 1 = cc in absurd (omega arith))
     go (reading.Refused r p) (given y) q e f = no-answer (sym e)
 
-nth-part : (number : ℕ) (rs : List (List ℕ)) (x : List ℕ) → nth number rs ≡ given x →
-    (front back : List ℕ) × (flat rs ≡ front ++ (x ++ back)) × (length front ≡ total (earlier number rs))
-nth-part zero [] x e = no-answer (sym e)
-nth-part (suc zero) [] x e = no-answer (sym e)
-nth-part (suc (suc k)) [] x e = no-answer (sym e)
-nth-part zero (r ∷ rs) x e = no-answer (sym e)
-nth-part (suc zero) (r ∷ rs) x e = let q : r ≡ x = cc in ([], flat rs, ap (λ (y : List ℕ). y ++ flat rs) q, refl)
-nth-part (suc (suc k)) (r ∷ rs) x e =
-    let h = nth-part (suc k) rs x e in
-    (r ++ h .0, h .1, ap (λ (y : List ℕ). r ++ y) (h .2) ∙ sym (append-assoc r (h .0) (x ++ h .1)), omega (arith, length-append r (h .0), h .3))
-
-pub chosen-placed : (s : List ℕ) (number : ℕ) (x : List ℕ) → chosen number (outcome s) ≡ given x →
-    (front back : List ℕ) × (s ≡ front ++ (x ++ back)) × (placed number (outcome s) ≡ given (length front ∷ length x ∷ []))
-chosen-placed s number x e =
-    let f = chosen-from s number (outcome s) x refl e in
-    let h = sound-of s (f .0) (f .1) .1 in
-    let p = nth-part number (f .0) x (f .2) in (
-      p .0,
-      p .1 ++ h .tail,
-      h .parts ∙ ap (λ (y : List ℕ). y ++ h .tail) (p .2) ∙ append-assoc (p .0) (x ++ p .1) (h .tail) ∙ ap (λ (y : List ℕ). p .0 ++ y) (append-assoc x (p .1) (h .tail)),
-      ap (placed number) (f .1) ∙ ap (with-given (λ y. total (earlier number (f .0)) ∷ length y ∷ [])) (f .2) ∙ ap (λ (n : ℕ). given (n ∷ length x ∷ [])) (sym (p .3)),
-    )
-
-placed-chosen : (s : List ℕ) (number : ℕ) (a : Records) (l : List ℕ) → outcome s ≡ a → placed number a ≡ given l → (x : List ℕ) × (chosen number a ≡ given x)
-placed-chosen s number (refused n p) l o e = no-answer (sym e)
-placed-chosen s number (given rs) l o e = by (nth number rs) refl e
-  where
-    by : (a : Answer (List ℕ)) → nth number rs ≡ a → with-given (λ y. total (earlier number rs) ∷ length y ∷ []) a ≡ given l → (x : List ℕ) × (nth number rs ≡ given x)
-    by (refused n p) q e = no-answer (sym e)
-    by (given x) q e = (x, q)
-
 pub located-found : (s : List ℕ) (number place long : ℕ) → Locates s number (location.At place long) →
     (length s ≤ 4096) × (place + long ≤ length s) × Finds s number (take long (drop place s))
-located-found s number place long e =
-    let f = placed-chosen s number (outcome s) (place ∷ long ∷ []) refl (sym e) in
-    let x = f .0 in
-    let p = chosen-placed s number x (f .1) in
-    let both : given (length (p .0) ∷ length x ∷ []) ≡ given (place ∷ long ∷ []) = sym (p .3) ∙ sym e in
-    let at : length (p .0) ≡ place = cc in
-    let size : length x ≡ long = cc in
-    let rest : drop place s ≡ x ++ p .1 = ap (drop place) (p .2) ∙ drop-at (p .0) (x ++ p .1) place at in (
-      sound-of s _ (chosen-from s number (outcome s) x refl (f .1) .1) .0,
-      omega (arith, ap length (p .2), length-append (p .0) (x ++ p .1), length-append x (p .1)),
-      ap (take long) rest ∙ take-at x (p .1) long size ∙ sym (ap part (f .1)),
-    )
+located-found s number place long e = let h = stands s number place long e in (h .short, h .fits, sym (ap part (h .chosen-is)))
 
 pub chosen-in-range : (s : List ℕ) (number : ℕ) (x : List ℕ) → chosen number (outcome s) ≡ given x → InRange (pointsIn x)
 unfolding pointsIn

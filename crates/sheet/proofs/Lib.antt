@@ -1,4 +1,4 @@
--- What the proofs share, and, in Once, Laws, Faults and Examples, what other crates may cite.
+-- What the proofs share, and, in Places, Once, Laws, Faults and Examples, what other crates may cite.
 pub mod Choose
 pub mod Answers
 pub mod Signs
@@ -8,6 +8,7 @@ pub mod Shown
 pub mod Outcomes
 pub mod Passed
 pub mod Chosen
+pub mod Places
 pub mod Formed
 pub mod Appended
 pub mod Once

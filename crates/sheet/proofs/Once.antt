@@ -1,5 +1,5 @@
 -- Each promise has one answer: what meets it twice is equal.
---   check-once, read-once, locate-once, find-once, erase-once, append-once   the calls
+--   check-once, read-once, read-at-once, locate-once, find-once, erase-once, append-once   the calls
 use mathlib.Core.Path.{_≡_, refl, sym, ap, _∙_}
 use mathlib.Core.List.{List}
 use Prim.Native.Nat.{ℕ}
@@ -7,11 +7,12 @@ use Rattle.curve.specs.declared.Curve.{Curve}
 use Rattle.curve.specs.Curves.{pointsOf}
 use Rattle.curve.proofs.Points.{curve-once}
 use Rattle.sheet.specs.Sheets.{Answer, erasing, appending}
-use Rattle.sheet.specs.Promises.{answerOfChecked, answerOfReading, answerOfLocation, answerOfChange, Checks, Reads, Locates, Finds, Changes, Erases, Appends}
+use Rattle.sheet.specs.Promises.{answerOfChecked, answerOfReading, answerOfLocation, answerOfChange, StandsAt, Checks, Reads, ReadsAt, Locates, Finds, Changes, Erases, Appends}
 use Rattle.sheet.specs.declared.Checked.{Checked}
 use Rattle.sheet.specs.declared.Checked.the-variants as checked
 use Rattle.sheet.specs.declared.Reading.{Reading}
 use Rattle.sheet.specs.declared.Reading.the-variants as reading
+use Rattle.sheet.specs.declared.Record.{Record}
 use Rattle.sheet.specs.declared.Location.{Location}
 use Rattle.sheet.specs.declared.Location.the-variants as location
 use Rattle.sheet.specs.declared.Change.{Change}
@@ -35,6 +36,16 @@ reading-same (reading.Refused r p) (reading.Refused r′ p′) e = let q = refus
 
 pub read-once : (s : List ℕ) (number : ℕ) (r r′ : Reading) → Reads s number r → Reads s number r′ → r ≡ r′
 read-once s number r r′ p q = reading-same r r′ (p ∙ sym q)
+
+-- where a record stands
+pub read-at-once : (s : List ℕ) (place : ℕ) (r r′ : Record) → StandsAt s place → ReadsAt s place r → ReadsAt s place r′ → r ≡ r′
+read-at-once s place r r′ (number, long, at) p q =
+    let points = p number long at in
+    let points′ = q number long at in
+    let curves : pointsOf (r .curve) ≡ pointsOf (r′ .curve) = cc (points .0 ∙ sym (points′ .0)) in
+    let curve = curve-once (r .curve) (r′ .curve) curves in
+    let end : r .end ≡ r′ .end = points .1 ∙ sym (points′ .1) in
+    λ i. record { curve = curve i; end = end i }
 
 location-same : (r r′ : Location) → answerOfLocation r ≡ answerOfLocation r′ → r ≡ r′
 location-same (location.At p n) (location.At p′ n′) e =

@@ -3,10 +3,11 @@
 --   part       the bytes of a chosen record: none where it is refused
 --   sheetAfter what a call leaves of a sheet
 --   Changes    what a call that writes a sheet says and leaves
---   Checks, Reads, Locates, Finds, Erases, Appends     the promises
+--   StandsAt   a curve's record stands at a place: what `read_at` asks for
+--   Checks, Reads, Locates, ReadsAt, Finds, Erases, Appends     the promises
 use mathlib.Core.Path.{_≡_}
 use mathlib.Core.List.{List, [], _∷_, _++_}
-use Prim.Native.Nat.{ℕ}
+use Prim.Native.Nat.{ℕ, _+_}
 use lib.ListN.{length}
 use Rattle.pair.specs.declared.Pair.{Pair}
 use Rattle.curve.specs.declared.Curve.{Curve}
@@ -15,6 +16,7 @@ use Rattle.sheet.specs.declared.Checked.{Checked}
 use Rattle.sheet.specs.declared.Checked.the-variants as checked
 use Rattle.sheet.specs.declared.Reading.{Reading}
 use Rattle.sheet.specs.declared.Reading.the-variants as reading
+use Rattle.sheet.specs.declared.Record.{Record}
 use Rattle.sheet.specs.declared.Location.{Location}
 use Rattle.sheet.specs.declared.Location.the-variants as location
 use Rattle.sheet.specs.declared.Change.{Change}
@@ -58,6 +60,14 @@ Reads s number r = answerOfReading r ≡ with-given pointsIn (chosen number (out
 -- locate: where the record of the curve of a number stands
 abbrev pub Locates : List ℕ → ℕ → Location → Type 0
 Locates s number r = answerOfLocation r ≡ placed number (outcome s)
+
+-- the record of some curve stands at a place
+abbrev pub StandsAt : List ℕ → ℕ → Type 0
+StandsAt s place = (number : ℕ) × (long : ℕ) × Locates s number (location.At place long)
+
+-- read_at: the points of the curve whose record stands at a place, and where that record ends
+abbrev pub ReadsAt : List ℕ → ℕ → Record → Type 0
+ReadsAt s place r = (number long : ℕ) → Locates s number (location.At place long) → Reads s number (reading.Points (r .curve)) × (r .end ≡ place + long)
 
 -- find: the record itself, and nothing where it is refused
 abbrev pub Finds : List ℕ → ℕ → List ℕ → Type 0

@@ -1,22 +1,21 @@
 // The parameter sheet, at most 4,096 bytes of records, each a curve.
 //   check    how many curves a sheet has, or its first fault
 //   read     a curve by its number, as points
+//   read_at  a curve by the place of its record, without a walk
 //   locate   where a curve's record stands
 //   find     the part of the sheet that holds a curve
 //   erase    makes every byte FF
 //   append   writes one more curve
 //   cubic_numbers, quintic_numbers   a curve's coordinates, as a record holds them
-// No call asks anything of its arguments, and a call that refuses leaves the sheet as it was.
+// No call but `read_at`, which asks for a record's place, asks anything of its arguments. A call that refuses leaves the sheet as it was.
 mod numbers;
 mod steps;
 mod walks;
 mod writes;
 
 ghost use Rattle.sheet.specs.Promises.{Checks, Reads, Locates, Finds, Erases, Appends};
-use crate::steps::is_kind;
 use crate::walks::Survey;
-use crate::walks::cubic_in;
-use crate::walks::quintic_in;
+pub use crate::walks::read_at;
 use crate::walks::walk;
 use crate::writes::append_at;
 pub use crate::writes::cubic_numbers;
@@ -34,6 +33,12 @@ pub enum Checked {
 pub enum Reading {
     Points(Curve),
     Refused(Refusal, usize),
+}
+
+// What `read_at` answers: the curve, and the place behind its record, where the next one begins.
+pub struct Record {
+    pub curve: Curve,
+    pub end: usize,
 }
 
 // What `locate` answers: the place of a record's first byte and how many bytes it has, or the refusal and its place.
@@ -70,11 +75,9 @@ pub fn read(sheet: &[u8], number: usize) -> Reading
             if from == to {
                 return Reading::Refused(Refusal::Number, 0);
             }
-            let record = &sheet[from..to];
-            if is_kind(record, b"C3") {
-                return Reading::Points(Curve::Cubic(cubic_in(record)));
-            }
-            Reading::Points(Curve::Quintic(quintic_in(record)))
+            let record = read_at(sheet, from);
+            let curve = record.curve;
+            Reading::Points(curve)
         }
     }
 }

@@ -1,4 +1,4 @@
-// The walk over a sheet's records, and the points of one that it found.
+// The walk over a sheet's records, and the points of one whose place is known.
 ghost use mathlib.Core.Path.{_≡_};
 ghost use Prim.Native.Nat.{_+_, _≤_};
 ghost use lib.ListN.{length};
@@ -7,12 +7,16 @@ ghost use Rattle.curve.specs.declared.Curve.the-variants as curves;
 ghost use Rattle.curve.specs.Curves.{pointsOf};
 ghost use Rattle.sheet.specs.Numbers.{wordAt, signed as signedOf};
 ghost use Rattle.sheet.specs.Sheets.{pointsIn};
+ghost use Rattle.sheet.specs.Promises.{StandsAt, ReadsAt};
 ghost use Rattle.sheet.specs.Inner.{Walked};
+use crate::Record;
 use crate::numbers::signed;
 use crate::numbers::word_at;
 use crate::steps::Step;
+use crate::steps::is_kind;
 use crate::steps::step_of;
 use curve::Cubic;
+use curve::Curve;
 use curve::Quintic;
 use pair::Pair;
 use refusal::Refusal;
@@ -78,7 +82,7 @@ fn point_at(bytes: &[u8], at: usize) -> Pair
     }
 }
 
-pub(crate) fn cubic_in(bytes: &[u8]) -> Cubic
+fn cubic_in(bytes: &[u8]) -> Cubic
     requires { ⌜ length (now bytes) ≡ 36 ⌝ }
     ensures { λ r. ⌜ pointsOf (curves.Cubic r) ≡ pointsIn (now (bytes .entry)) ⌝ }
 {
@@ -90,7 +94,7 @@ pub(crate) fn cubic_in(bytes: &[u8]) -> Cubic
     }
 }
 
-pub(crate) fn quintic_in(bytes: &[u8]) -> Quintic
+fn quintic_in(bytes: &[u8]) -> Quintic
     requires { ⌜ length (now bytes) ≡ 52 ⌝ }
     ensures { λ r. ⌜ pointsOf (curves.Quintic r) ≡ pointsIn (now (bytes .entry)) ⌝ }
 {
@@ -102,4 +106,19 @@ pub(crate) fn quintic_in(bytes: &[u8]) -> Quintic
         p4: point_at(bytes, 36),
         p5: point_at(bytes, 44),
     }
+}
+
+// The curve whose record stands at `place`, and where that record ends.
+pub fn read_at(sheet: &[u8], place: usize) -> Record
+    requires { ⌜ StandsAt (now sheet) place ⌝ }
+    ensures { λ r. ⌜ ReadsAt (now (sheet .entry)) place r ⌝ }
+{
+    if is_kind(&sheet[place..], b"C3") {
+        let end = place + 36;
+        let curve = Curve::Cubic(cubic_in(&sheet[place..end]));
+        return Record { curve, end };
+    }
+    let end = place + 52;
+    let curve = Curve::Quintic(quintic_in(&sheet[place..end]));
+    Record { curve, end }
 }
