@@ -4,7 +4,6 @@
 --   count-edge       a c = 0 and b (a + c) < 0: one
 --   count-deep       a c > 0, b (a + c) < 0 and b² > 4 a c: two
 --   count-flat       a c > 0 and b² ≤ 4 a c: none
---   counted          so every polynomial has a count; `count-once` of Most says that it has one only
 use mathlib.Core.Path.{_≡_, refl, ap}
 use mathlib.Core.List.{[], _∷_}
 use mathlib.Core.Logic.{_⊎_, inl, inr, ⊎-map}
@@ -103,13 +102,3 @@ module _ (x : Turning) where
 
       u : Unlike a b
       u = like-unlike a (a +ℤ c) b total (unlike-flip b (a +ℤ c) k)
-
-  pub counted : (k : ℕ) × CountIs x k
-  counted = ends (compare (pos 0) (a *ℤ c)) (compare (pos 0) (b *ℤ (a +ℤ c))) (compare (a *ℤ c) (pos 0)) (compare (b *ℤ b) (a *ℤ c *ℤ pos 4))
-    where
-      ends : (pos 0 ≤ℤ (a *ℤ c)) ⊎ ((a *ℤ c) <ℤ pos 0) → (pos 0 ≤ℤ (b *ℤ (a +ℤ c))) ⊎ ((b *ℤ (a +ℤ c)) <ℤ pos 0) → ((a *ℤ c) ≤ℤ pos 0) ⊎ (pos 0 <ℤ (a *ℤ c)) → ((b *ℤ b) ≤ℤ (a *ℤ c *ℤ pos 4)) ⊎ ((a *ℤ c *ℤ pos 4) <ℤ (b *ℤ b)) → (k : ℕ) × CountIs x k
-      ends (inr h) _ _ _ = (1, count-apart h)
-      ends (inl h) (inl k) _ _ = (0, count-level h k)
-      ends (inl h) (inr k) (inl l) _ = (1, count-edge (omega linear) k)
-      ends (inl h) (inr k) (inr l) (inl d) = (0, count-flat l d)
-      ends (inl h) (inr k) (inr l) (inr d) = (2, count-deep l k d)

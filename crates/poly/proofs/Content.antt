@@ -4,7 +4,7 @@
 --   greatest-some        that of a polynomial other than 0 is not 0
 --   greatest-associates  two of them differ by a unit, where one is not 0
 --   quotient-primitive   a polynomial divided by its greatest common divisor is primitive
---   PrimitivePart, primitive-part        a polynomial other than 0 is its greatest common divisor, not 0, times a primitive one
+--   PrimitivePart, primitive-part        a polynomial other than 0 is a number times a primitive one
 --   primitive-greatest   the greatest common divisor of c f is c, where f is primitive and c not 0
 --   greatest-same, primitive-same        both say something of a polynomial, however it is written
 --   primitive-scaled     a unit times a primitive polynomial is primitive
@@ -25,11 +25,9 @@ use Rattle.poly.proofs.Domain.{Domain, times-cancel}
 use Rattle.poly.proofs.Divisibility.{Bezout, divides-times, divides-common, unit-of-one}
 
 module _ {A : Type 0} (C : Coefficients A) where
-  -- p is its greatest common divisor times a primitive polynomial
+  -- p is a number times a primitive polynomial
   pub record PrimitivePart (p : List A) : Type 0 where
     pub factor : A
-    pub factor-some : factor ≢ C .none
-    pub factor-greatest : Greatest C p factor
     pub part : List A
     pub part-primitive : Primitive C part
     pub factored : Same C (scaled C factor part) p
@@ -140,8 +138,7 @@ module _ {A : Type 0} {C : Coefficients A} (R : Ring C) (B : Bezout C) (D : Doma
   primitive-part p n =
       let (c, g) = content R B p in
       let (f, e) = quotients R c p (g .divides) in
-      let s : c ≢ 𝟎 = greatest-some R g n in
-      record { factor = c; factor-some = s; factor-greatest = g; part = f; part-primitive = quotient-primitive R D f s g e; factored = e }
+      record { factor = c; part = f; part-primitive = quotient-primitive R D f (greatest-some R g n) g e; factored = e }
 
   pub primitive-greatest : (p f : List A) (c : A) → c ≢ 𝟎 → Primitive C f → Same C (scaled C c f) p → Greatest C p c
   primitive-greatest p f c n h e = record { divides = each; greatest = λ d i. divides-trans R (g .greatest d i) least }

@@ -3,7 +3,6 @@
 --   divides-rest          d ∣ a + b and d ∣ a give d ∣ b
 --   unit-of-one           what divides 1 is a unit
 --   unit-divisor          what divides a unit is a unit
---   unit-times            a product of units is a unit
 --   Bezout C              any two numbers a, b have a common divisor a x + b y
 --   divides-common        every common divisor divides it
 --   divides-cofactor      Euclid's lemma: d ∣ a b gives d ∣ b, where the common divisor of d and a is a unit
@@ -45,12 +44,6 @@ module _ {A : Type 0} {C : Coefficients A} (R : Ring C) where
 
   pub unit-divisor : {d u : A} → Divides C d u → IsUnit C u → IsUnit C d
   unit-divisor h v x = divides-trans R h (v x)
-
-  pub unit-times : {u v : A} → IsUnit C u → IsUnit C v → IsUnit C (u ⊗ v)
-  unit-times {u} {v} h k x =
-      let y = h x in
-      let z = k (y .factor) in
-      record { factor = z .factor; is = R .times-assoc u v (z .factor) ∙ ap (λ t. u ⊗ t) (z .is) ∙ y .is }
 
 module _ {A : Type 0} {C : Coefficients A} (R : Ring C) (B : Bezout C) where
   open Coefficients C using (plus as _⊕_, times as _⊗_)

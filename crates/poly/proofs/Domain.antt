@@ -4,7 +4,6 @@
 --   roots-agree         a² = b² gives a = b or a = −b
 --   twice-some          2 a is not 0 where neither 2 nor a is
 --   product-zero        a product of polynomials is 0 only where a factor is
---   scaled-cancel, product-cancel      a multiple by a number other than 0, a product by a polynomial other than 0, is cancelled
 --   UpToSign R p q      p = q or p = −q
 --   squares-agree       p² = q² gives p = q or p = −q
 --   scaled-squares-agree               c p² = c q² with c not 0 does too
@@ -23,7 +22,7 @@ use Rattle.poly.proofs.Lists.{at-scaled, at-product, of-sum, of-differe
 pub record Domain {A : Type 0} (C : Coefficients A) : Type 0 where
   pub splits : (a b : A) → C .times a b ≡ C .none → (a ≡ C .none) ⊎ (b ≡ C .none)
 
--- ---- any ring; the two identities serve polynomials too
+-- ---- any ring; the first identity serves polynomials too
 module _ {A : Type 0} {C : Coefficients A} (R : Ring C) where
   open Coefficients C using (plus as _⊕_, times as _⊗_)
 
@@ -102,8 +101,8 @@ module _ {A : Type 0} {C : Coefficients A} (R : Ring C) (D : Domain C) where
   pub product-zero : (p q : List A) → Same C (product C p q) [] → Same C p [] ⊎ Same C q []
   product-zero p q h = conv-zero p q (λ k. sym (at-product R p q k) ∙ h k)
 
-  -- ---- what can be cancelled
-  pub scaled-cancel : (c : A) (p q : List A) → c ≢ 𝟎 → Same C (scaled C c p) (scaled C c q) → Same C p q
+  -- a multiple by a number other than 0 is cancelled
+  scaled-cancel : (c : A) (p q : List A) → c ≢ 𝟎 → Same C (scaled C c p) (scaled C c q) → Same C p q
   scaled-cancel c p q n h k = times-cancel c _ _ n (sym (at-scaled R c p k) ∙ h k ∙ at-scaled R c q k)
 
   abbrev minus : List A → List A → List A
@@ -111,17 +110,6 @@ module _ {A : Type 0} {C : Coefficients A} (R : Ring C) (D : Domain C) where
 
   minus-zero : (p q : List A) → Zero (at C (minus p q)) → Same C p q
   minus-zero p q h k = zero-difference R _ _ (sym (ap (λ f. f k) (of-difference R p q)) ∙ h k)
-
-  pub product-cancel : (p q r : List A) → (Same C p [] → ⊥) → Same C (product C p q) (product C p r) → Same C q r
-  product-cancel p q r n h =
-      ⊎-elim (λ z. absurd (n z)) (minus-zero q r) (conv-zero p (minus q r) zeros)
-    where
-      zeros : Zero (conv C (at C p) (at C (minus q r)))
-      zeros k =
-          ap (λ f. conv C (at C p) f k) (of-difference R q r)
-          ∙ ap (λ f. f k) (times-difference (series-ring R) (at C p) (at C q) (at C r))
-          ∙ ap (λ x. x ⊕ R .negative (conv C (at C p) (at C r) k)) (sym (at-product R p q k) ∙ h k ∙ at-product R p r k)
-          ∙ R .plus-negative _
 
   -- ---- a square has two roots
   pub squares-agree : (p q : List A) → Same C (square C p) (square C q) → UpToSign R p q

@@ -13,7 +13,6 @@ pub mod Content
 pub mod Squares
 pub mod Euclid
 pub mod Roots
-pub mod Descent
 pub mod Shift
 pub mod Wholes
 pub mod RootTwo

@@ -1,9 +1,9 @@
 -- Lists of coefficients as series: what each operation on lists does at a power, and the laws of polynomials up to `Same`.
 --   at-sum, at-scaled, at-product          a coefficient of a sum, of a multiple and of a product
---   of-sum, of-scaled, of-product          the same as paths of series, for rewriting
+--   of-sum, of-product                     the same as paths of series, for rewriting
 --   path                                   `Same` as a path of series
 --   sum-same, scaled-same, product-same, square-same     each operation keeps `Same`
---   sum-comm, sum-assoc, product-comm, product-assoc, product-sum, product-none, product-one     the ring of polynomials
+--   sum-comm, product-none                 the order of a sum does not matter; a product with 0 is 0
 --   scaled-one, scaled-scaled, scaled-sum, scaled-product, square-scaled     multiples: (a p)² = a² p²
 --   scaled-none, none-scaled               a multiple of 0, and by 0, is 0
 --   scaled-is-product                      a multiple is a product with a constant
@@ -15,7 +15,7 @@ use Prim.Native.Nat.{ℕ, zero, suc}
 use lib.IntN.{pos, negsuc}
 use Rattle.whole.specs.Poly.{Coefficients, at, Same, sum, scaled, product, square}
 use Rattle.whole.proofs.Ring.{Ring, times-none, none-times, none-plus, minus-one}
-use Rattle.poly.proofs.Series.{conv, conv-none, conv-comm, conv-assoc, conv-plus, conv-constant, scaled-conv}
+use Rattle.poly.proofs.Series.{conv, conv-none, conv-comm, conv-constant, scaled-conv}
 
 module _ {A : Type 0} (C : Coefficients A) where
   pub path : (p q : List A) → Same C p q → at C p ≡ at C q
@@ -49,7 +49,7 @@ module _ {A : Type 0} {C : Coefficients A} (R : Ring C) where
   pub of-sum : (p q : List A) → at C (sum C p q) ≡ (λ k. at C p k ⊕ at C q k)
   of-sum p q = fun-ext (at-sum p q)
 
-  pub of-scaled : (a : A) (p : List A) → at C (scaled C a p) ≡ (λ k. a ⊗ at C p k)
+  of-scaled : (a : A) (p : List A) → at C (scaled C a p) ≡ (λ k. a ⊗ at C p k)
   of-scaled a p = fun-ext (at-scaled a p)
 
   pub of-product : (p q : List A) → at C (product C p q) ≡ conv C (at C p) (at C q)
@@ -75,27 +75,15 @@ module _ {A : Type 0} {C : Coefficients A} (R : Ring C) where
   pub square-same : (p p′ : List A) → Same C p p′ → Same C (square C p) (square C p′)
   square-same p p′ e = product-same p p′ p p′ e e
 
-  -- ---- the ring of polynomials
+  -- ---- sums and products
   pub sum-comm : (p q : List A) → Same C (sum C p q) (sum C q p)
   sum-comm p q k = simp at-sum (R .plus-comm _ _)
 
-  pub sum-assoc : (p q r : List A) → Same C (sum C (sum C p q) r) (sum C p (sum C q r))
-  sum-assoc p q r k = simp at-sum (R .plus-assoc _ _ _)
-
-  pub product-comm : (p q : List A) → Same C (product C p q) (product C q p)
+  product-comm : (p q : List A) → Same C (product C p q) (product C q p)
   product-comm p q k = simp at-product (conv-comm R _ _ k)
-
-  pub product-assoc : (p q r : List A) → Same C (product C (product C p q) r) (product C p (product C q r))
-  product-assoc p q r k = simp (at-product, of-product) (conv-assoc R _ _ _ k)
-
-  pub product-sum : (p q r : List A) → Same C (product C p (sum C q r)) (sum C (product C p q) (product C p r))
-  product-sum p q r k = simp (at-product, at-sum, of-sum) (conv-plus R _ _ _ k)
 
   pub product-none : (p q : List A) → Same C p [] → Same C (product C p q) []
   product-none p q z k = at-product p q k ∙ ap (λ x. conv C x (at C q) k) (path C p [] z) ∙ conv-none R (at C q) k
-
-  pub product-one : (p : List A) → Same C (product C (R .number (pos 1) ∷ []) p) p
-  product-one p k = at-product (R .number (pos 1) ∷ []) p k ∙ conv-constant R _ _ k ∙ R .times-comm _ _ ∙ R .times-one _
 
   -- ---- multiples
   pub scaled-one : (p : List A) → Same C (scaled C (R .number (pos 1)) p) p

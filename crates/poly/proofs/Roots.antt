@@ -1,10 +1,6 @@
 -- The coefficients of a square root, each from those above it. Where q has s at its highest power L and M is its square, M (k + L) is 2 s q k
 -- and a sum over the coefficients of q strictly between k and L.
---   upper k f, between n f     the coefficients from the k-th on; that sum, where n powers stand between, f 0 the lowest of them
---   root-coefficient           2 s q k = M (k + L) − between, for each k below L
---   between-0, between-1, between-2, between-3      the sums written out
---   less-none                  a − 0 = a, for the first
---   root-1, root-2, root-3, root-4     the equations for k = L − 1, L − 2, L − 3, L − 4, with the sums written out
+--   root-1, root-2, root-3, root-4     that equation for k = L − 1, L − 2, L − 3, L − 4, with the sum written out
 --   root-lead                  where the highest power of M is L + L, that of q is L, and its coefficient a root of M's
 --   root-signed                and q or −q has s there, whichever root s of it is taken
 use mathlib.Core.Path.{_≡_, refl, sym, ap, ap₂, _∙_, fun-ext}
@@ -24,12 +20,12 @@ use Rattle.poly.proofs.Domain.{Domain, UpToSign, roots-agree}
 use Rattle.poly.proofs.Top.{product-lead, scaled-above, square-root-above}
 
 -- the coefficients from the k-th on
-abbrev pub upper : {A : Type 0} → ℕ → Series A → Series A
+abbrev upper : {A : Type 0} → ℕ → Series A → Series A
 upper k f i = f (k + i)
 
 module _ {A : Type 0} (C : Coefficients A) where
-  -- the terms of a coefficient of a square that are neither the first nor the last, of the polynomial without its constant
-  unfoldable pub between : ℕ → Series A → A
+  -- that sum, where n powers stand between, f 0 the lowest of them: the terms of a coefficient of a square that are neither the first nor the last
+  unfoldable between : ℕ → Series A → A
   between zero f = C .none
   between (suc n) f = conv C f f n
 
@@ -86,7 +82,8 @@ module _ {A : Type 0} {C : Coefficients A} (R : Ring C) where
   moved : (s x y : A) → twice C s ⊗ x ≡ twice C (s ⊗ x) ⊕ y ⊕ R .negative y
   moved s x y = atoms R (s ∷ x ∷ y ∷ []) (λ ρ e. simp (e 0, e 1, e 2, read) (ring R ρ _ _ tt))
 
-  pub root-coefficient : {M : List A} {L : ℕ} {s : A} {q : List A} → RootAt C M L s q → (k n : ℕ) → k + suc n ≡ L
+  -- 2 s q k = M (k + L) − between, for each k below L
+  root-coefficient : {M : List A} {L : ℕ} {s : A} {q : List A} → RootAt C M L s q → (k n : ℕ) → k + suc n ≡ L
       → twice C s ⊗ at C q k ≡ at C M (k + L) ⊕ R .negative (between C n (upper (suc k) (at C q)))
   root-coefficient {M} {L} {s} {q} r k n e =
       let rest = between C n (upper (suc k) (at C q)) in
@@ -95,26 +92,26 @@ module _ {A : Type 0} {C : Coefficients A} (R : Ring C) where
       moved s (at C q k) rest ∙ ap (λ x. x ⊕ R .negative rest) (sym square ∙ sym (at-product R q q (k + L)) ∙ r .squared (k + L))
 
   -- ---- the sums written out
-  pub between-0 : (f : Series A) → between C 0 f ≡ 𝟎
+  between-0 : (f : Series A) → between C 0 f ≡ 𝟎
   unfolding between
   between-0 f = refl
 
-  pub between-1 : (f : Series A) → between C 1 f ≡ f 0 ⊗ f 0
+  between-1 : (f : Series A) → between C 1 f ≡ f 0 ⊗ f 0
   unfolding between conv
   between-1 f = refl
 
-  pub between-2 : (f : Series A) → between C 2 f ≡ twice C (f 0 ⊗ f 1)
+  between-2 : (f : Series A) → between C 2 f ≡ twice C (f 0 ⊗ f 1)
   unfolding between conv
   between-2 f = ap (λ x. f 0 ⊗ f 1 ⊕ x) (R .times-comm _ _)
 
   middle : (a b c : A) → a ⊗ c ⊕ (b ⊗ b ⊕ c ⊗ a) ≡ twice C (a ⊗ c) ⊕ b ⊗ b
   middle a b c = atoms R (a ∷ b ∷ c ∷ []) (λ ρ e. simp (e 0, e 1, e 2, read) (ring R ρ _ _ tt))
 
-  pub between-3 : (f : Series A) → between C 3 f ≡ twice C (f 0 ⊗ f 2) ⊕ f 1 ⊗ f 1
+  between-3 : (f : Series A) → between C 3 f ≡ twice C (f 0 ⊗ f 2) ⊕ f 1 ⊗ f 1
   unfolding between conv
   between-3 f = middle _ _ _
 
-  pub less-none : (a : A) → a ⊕ R .negative 𝟎 ≡ a
+  less-none : (a : A) → a ⊕ R .negative 𝟎 ≡ a
   less-none a = atoms R (a ∷ []) (λ ρ e. simp (e 0, read-none R ρ, read) (ring R ρ _ _ tt))
 
   -- `between` by its value at the coefficients of q from k + 1 on

@@ -1,6 +1,6 @@
 -- When a polynomial is some number times a square.
---   UnitSquare, square-primitive   c f = c′ q² with f primitive and c not 0: f = u r² with a unit u and r primitive, q = h r, and c u = c′ h²
---   square-quotient      the same where c is the greatest common divisor of a polynomial p = c f, and p = c′ q²
+--   UnitSquare, square-quotient    c is the greatest common divisor of p = c f, and not 0, and p = c′ q²: f = u r² with a unit u and r primitive,
+--                        q = h r, and c u = c′ h²
 --   root-same            p = c q² says something of the polynomial q, however it is written
 --   square-multiple      back again: f = u r² gives c f = (c u) r²
 --   primitive-squares    κ w² = κ′ w′² with w and w′ primitive and κ not 0: w² = u w′² and κ′ = κ u for a unit u
@@ -45,7 +45,8 @@ module _ {A : Type 0} {C : Coefficients A} (R : Ring C) (B : Bezout C) (D : Doma
   primitive-squares κ κ′ w w′ n u v e =
       associates R B D κ κ′ (square C w) (square C w′) n (primitive-product R B w w u u) (primitive-product R B w′ w′ v v) e
 
-  pub square-primitive : (c c′ : A) (f q : List A) → c ≢ 𝟎 → Primitive C f → Same C (scaled C c f) (scaled C c′ (square C q)) → UnitSquare C c c′ f q
+  -- c f = c′ q² with f primitive
+  square-primitive : (c c′ : A) (f q : List A) → c ≢ 𝟎 → Primitive C f → Same C (scaled C c f) (scaled C c′ (square C q)) → UnitSquare C c c′ f q
   square-primitive c c′ f q n h e =
       let p = primitive-part R B D q q-some in
       let r = p .part in

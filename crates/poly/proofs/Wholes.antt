@@ -1,14 +1,12 @@
 -- The theory at whole numbers.
 --   whole-zero?           whether a number is 0
---   wholes-domain, wholes-euclid, wholes-bezout     ℤ has no zero divisors, division with a smaller remainder, common divisors a x + b y
+--   wholes-domain, wholes-bezout     ℤ has no zero divisors, and common divisors a x + b y
 --   twice-whole-some      2 a is not 0 where a is not
---   whole-unit            a unit has absolute value 1,
---   whole-unit-sign       and is 1 or −1
---   unit-positive         c u = d with c positive, d not negative and u a unit: u is 1
+--   whole-unit            a unit has absolute value 1
 --   content-once          a polynomial has one greatest common divisor that is not negative,
 --   positive-content      and, where it is not 0, a positive one
 --   WholeSquare, whole-square       p = c f, where c is p's greatest common divisor and positive: if p is c′ q² for a positive c′,
---                         then f = r² with r primitive, q = h r and c = c′ h²
+--                         then f is a square
 use mathlib.Core.Path.{_≡_, refl, sym, ap, _∙_}
 use mathlib.Core.List.{List, []}
 use mathlib.Core.Logic.{_≢_, _↔_, _⊎_, ⊎-elim}
@@ -20,11 +18,11 @@ use Rattle.whole.specs.Number.{wholes}
 use Rattle.whole.specs.Poly.{at, Same, Divides, Greatest, scaled, square}
 use Rattle.whole.proofs.Division.{quotient-rest, rest-below}
 use Rattle.whole.proofs.Divisor.{divides-abs, greatest-says, greatest-is, greatest-once}
-use Rattle.whole.proofs.Integers.{abs-times, abs-zero, *ℤ-domain, *ℤ-1, abs-one}
+use Rattle.whole.proofs.Integers.{abs-times, abs-zero, *ℤ-domain, abs-one}
 use Rattle.whole.proofs.Linear.{linear, times-parts}
 use Rattle.whole.proofs.Order.{nonneg-times, nonneg-square, nonneg-is}
 use Rattle.whole.proofs.Wholes.{wholes-ring}
-use Rattle.poly.specs.Terms.{IsUnit, Primitive, twice}
+use Rattle.poly.specs.Terms.{IsUnit, twice}
 use Rattle.poly.proofs.Lists.{scaled-one}
 use Rattle.poly.proofs.Domain.{Domain, twice-some}
 use Rattle.poly.proofs.Divisibility.{Bezout}
@@ -38,7 +36,8 @@ whole-zero? a = ℤ-discrete a (pos 0)
 pub wholes-domain : Domain wholes
 wholes-domain = record { splits = *ℤ-domain }
 
-abbrev pub wholes-euclid : Euclid wholes
+-- division leaves a smaller rest
+abbrev wholes-euclid : Euclid wholes
 wholes-euclid = record {
   zero? = whole-zero?;
   size = natAbs;
@@ -61,10 +60,11 @@ one-of-product (suc (suc m)) (suc n) e = absurd (omega arith)
 pub whole-unit : {u : ℤ} → IsUnit wholes u → natAbs u ≡ 1
 whole-unit {u} h = let v = h (pos 1) in one-of-product (natAbs u) (natAbs (v .factor)) (sym (abs-times u (v .factor)) ∙ ap natAbs (v .is))
 
-pub whole-unit-sign : {u : ℤ} → IsUnit wholes u → (u ≡ pos 1) ⊎ (u ≡ negsuc 0)
+whole-unit-sign : {u : ℤ} → IsUnit wholes u → (u ≡ pos 1) ⊎ (u ≡ negsuc 0)
 whole-unit-sign {u} h = abs-one u (whole-unit h)
 
-pub unit-positive : {c u d : ℤ} → pos 0 <ℤ c → pos 0 ≤ℤ d → c *ℤ u ≡ d → IsUnit wholes u → u ≡ pos 1
+-- c u = d with c positive, d not negative and u a unit: u is 1
+unit-positive : {c u d : ℤ} → pos 0 <ℤ c → pos 0 ≤ℤ d → c *ℤ u ≡ d → IsUnit wholes u → u ≡ pos 1
 unit-positive {c} {u} {d} h k e i = ⊎-elim (λ one. one) minus (whole-unit-sign i)
   where
     minus : u ≡ negsuc 0 → u ≡ pos 1
@@ -90,24 +90,13 @@ positive-content p n =
     says d c g = (λ h. greatest-says wholes-ring g d .0 (divides-abs d c .0 h), λ h. divides-abs d c .1 (greatest-says wholes-ring g d .1 h))
 
 -- ---- squares
-pub record WholeSquare (c c′ : ℤ) (f q : List ℤ) : Type 0 where
+pub record WholeSquare (f : List ℤ) : Type 0 where
   pub root : List ℤ
-  pub root-primitive : Primitive wholes root
   pub squared : Same wholes f (square wholes root)
-  pub factor : ℤ
-  pub factored : Same wholes (scaled wholes factor root) q
-  pub factors : c ≡ c′ *ℤ (factor *ℤ factor)
 
 pub whole-square : {p : List ℤ} {c : ℤ} (c′ : ℤ) (f q : List ℤ) → pos 0 <ℤ c → pos 0 <ℤ c′ → Greatest wholes p c
-    → Same wholes (scaled wholes c f) p → Same wholes p (scaled wholes c′ (square wholes q)) → WholeSquare c c′ f q
+    → Same wholes (scaled wholes c f) p → Same wholes p (scaled wholes c′ (square wholes q)) → WholeSquare f
 whole-square {c} c′ f q h h′ g e i =
     let r = square-quotient wholes-ring wholes-bezout wholes-domain c′ f q (λ z. omega linear) g e i in
     let one : r .unit ≡ pos 1 = unit-positive h (nonneg-times {s = c′} (omega linear) (nonneg-square (r .factor))) (r .factors) (r .is-unit) in
-    record {
-      root = r .root;
-      root-primitive = r .root-primitive;
-      squared = λ k. (rw one at (r .squared)) k ∙ scaled-one wholes-ring (square wholes (r .root)) k;
-      factor = r .factor;
-      factored = r .factored;
-      factors = sym (*ℤ-1 c) ∙ ap (λ u. c *ℤ u) (sym one) ∙ r .factors;
-    }
+    record { root = r .root; squared = λ k. (rw one at (r .squared)) k ∙ scaled-one wholes-ring (square wholes (r .root)) k }

@@ -9,7 +9,7 @@
 --   abs-plus          the triangle inequality
 --   scaled-within     the bound of a multiple
 --   within-stable     what is not out of its bound is within it
---   fits-within, within-fits      what a bound says of the width, and the other way
+--   fits-within       what a bound says of the width
 --   read-back tt h    a number with a bound is read back from the bits of an i64
 -- A need of `x * y - 3 * z`, whatever stands between, is one line, and so is what the code returns (`simp` closes an equation by itself).
 -- Each literal of the code is listed by its value, as bits have literals of their own:
@@ -39,7 +39,7 @@ pub data Bounded : List ℕ → List ℤ → Type 0 where
   _▸_ : {b : ℕ} {x : ℤ} {Bs : List ℕ} {σ : List ℤ} → Within b x → Bounded Bs σ → Bounded (b ∷ Bs) (x ∷ σ)
 
 -- ---- the bound of an expression
-abbrev pub boundAt : List ℕ → ℕ → ℕ
+abbrev boundAt : List ℕ → ℕ → ℕ
 boundAt [] i = 0
 boundAt (b ∷ Bs) zero = b
 boundAt (b ∷ Bs) (suc i) = boundAt Bs i
@@ -84,9 +84,6 @@ fits-within {x} l h = omega (linear, h .size, abs-parts x)
 
 pub read-back : {b : ℕ} {x : ℤ} → T (ltb b (2 ^ 63)) → Within b x → toZ w64 (ofZ w64 x) ≡ x
 read-back {b} {x} t h = toZ-ofZ w64 x (fits-within (ltb→lt b (2 ^ 63) t) h)
-
-pub within-fits : {w : Width} {x : ℤ} → SFits w x → Within (2 ^ hbits w) x
-within-fits {x} f = record { size = omega (linear, abs-parts x, one-part x) }
 
 -- ---- what has been read
 pub bounds : {G : Type 0} {σ : List ℤ} {Bs : List ℕ} → Bounded Bs σ → ((ρ : List ℤ) → ((i : ℕ) → nth wholes-ring σ i ≡ valℤ ρ (var i)) → Bounded Bs ρ → G) → G
