@@ -1,16 +1,9 @@
 -- `lent::lend` is safe: what is lent is a part of the hundred numbers.
-use mathlib.Core.Path.{_≡_}
-use mathlib.Core.List.{List}
-use Prim.Native.Nat.{ℕ, _≤_}
-use native.Mathlib.Omega.{arith}
+use mathlib.Core.Path.{sym}
 use borrow.Author.Needs.{needs}
-use lib.IntN.{ℤ}
-use lib.ListN.{length, take, length-take}
+use lib.Seq.{length-take-le}
 use Rattle.trials.proofs.lent.lend.Statement.{statement}
 use Rattle.trials.proofs.lent.lend.Tie as tie
-
-prefix : (n : ℕ) (xs : List ℤ) → n ≤ length xs → n ≡ length (take n xs)
-prefix n xs h = omega (arith, length-take n xs)
 
 last-requires : tie.Need-last-requires
 last-requires c κs = search needs
@@ -22,7 +15,7 @@ array-borrow-prefix-space : tie.Need-array-borrow-prefix-space
 array-borrow-prefix-space c = search needs
 
 slice-aggregate-answer : tie.Need-slice-aggregate-answer
-slice-aggregate-answer c = prefix _ _ (c .before .room .ensures)
+slice-aggregate-answer c = sym (length-take-le _ _ (c .before .room .ensures))
 
 answer-requires : tie.Need-answer-requires
 answer-requires c κs = search needs

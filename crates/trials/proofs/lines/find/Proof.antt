@@ -1,15 +1,10 @@
 -- `lines::find` meets its contract.
-use mathlib.Core.List.{List}
-use Prim.Native.Nat.{ℕ, _-_, _≤_}
-use native.Mathlib.Omega.{arith}
+use Prim.Native.Nat.{_-_, _≤_}
 use borrow.Author.Needs.{needs}
-use lib.ListN.{length, length-take}
-use Rattle.io.specs.Counts.{Counts}
+use lib.ListN.{length}
+use Rattle.trials.proofs.Prefixes.{counted}
 use Rattle.trials.proofs.lines.find.Statement.{statement}
 use Rattle.trials.proofs.lines.find.Tie as tie
-
-counted : {from : ℕ} (at : ℕ) (text : List ℕ) → (from ≤ at) × (at ≤ length text) → (from ≤ at) × Counts at text
-counted at text h = (h .0, (h .1, omega (arith, length-take at text)))
 
 abbrev Inv-loop : tie.InvT-loop
 Inv-loop text from byte at₀ at = (from ≤ at) × (at ≤ length text)
@@ -26,7 +21,7 @@ shared-slice-read-if1 c = search needs
 returns : tie.Need-returns Inv-loop μ-loop
 returns c =
     let l = c .before .before .before in
-    counted (l .loop .at) (l .before .args .text .now) (l .loop .inv)
+    (l .loop .inv .0, counted (l .loop .at) (l .before .args .text .now) (l .loop .inv .1))
 
 add-at : tie.Need-add-at Inv-loop μ-loop
 add-at c = search needs
@@ -38,7 +33,9 @@ loop-again : tie.Need-loop-again Inv-loop μ-loop
 loop-again c = search needs
 
 returns-2 : tie.Need-returns-2 Inv-loop μ-loop
-returns-2 c = counted (c .before .loop .at) (c .before .before .args .text .now) (c .before .loop .inv)
+returns-2 c =
+    let l = c .before in
+    (l .loop .inv .0, counted (l .loop .at) (l .before .args .text .now) (l .loop .inv .1))
 
 pub find-spec : {M : Type 1} → statement M
 find-spec =

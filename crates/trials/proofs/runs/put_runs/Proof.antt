@@ -1,16 +1,12 @@
 -- `runs::put_runs` is safe, and ends within the area.
 use borrow.Author.Needs.{needs}
 use mathlib.Core.Path.{_≡_}
-use mathlib.Core.List.{List}
-use Prim.Native.Nat.{ℕ, _≤_, _-_}
+use Prim.Native.Nat.{_≤_, _-_}
 use native.Mathlib.Omega.{arith}
-use lib.ListN.{length, length-take}
-use Rattle.io.specs.Counts.{Counts}
+use lib.ListN.{length}
+use Rattle.trials.proofs.Prefixes.{counted}
 use Rattle.trials.proofs.runs.put_runs.Statement.{statement}
 use Rattle.trials.proofs.runs.put_runs.Tie as tie
-
-counted : (n : ℕ) (area before : List ℕ) → (n ≤ length before) × (length area ≡ length before) → Counts n area
-counted n area before h = (omega (arith, h .0, h .1), omega (arith, h .0, h .1, length-take n area))
 
 abbrev Inv-loop : tie.InvT-loop
 Inv-loop area₀ n first count end₀ i₀ area end i = (end ≤ length area₀) × (length area ≡ length area₀)
@@ -30,7 +26,7 @@ same-length c = search needs
 returns : tie.Need-returns Inv-loop μ-loop
 returns c =
     let l = c .before .before .loop in
-    counted (l .end) (l .area) (c .before .before .before .before .args .area .now) (l .inv)
+    counted (l .end) (l .area) (omega (arith, l .inv .0, l .inv .1))
 
 mul-byte : tie.Need-mul-byte Inv-loop μ-loop
 mul-byte c = search needs
@@ -71,7 +67,7 @@ same-length-2 c = search needs
 returns-2 : tie.Need-returns-2 Inv-loop μ-loop
 returns-2 c =
     let l = c .before .loop in
-    counted (l .end) (l .area) (c .before .before .before .args .area .now) (l .inv)
+    counted (l .end) (l .area) (omega (arith, l .inv .0, l .inv .1))
 
 pub put-runs-spec : {M : Type 1} → statement M
 put-runs-spec =
