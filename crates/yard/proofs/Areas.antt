@@ -1,5 +1,4 @@
 -- Numbers handed over in a lent area, and numbers that a call is given.
---   put-more           a store at i: one value more, and then what was there
 --   spelled, spelled-all   so many numbers of a list one by one, from a place on; all of them are the list
 --   hands-refused      a refusal, from what clearing the area leaves
 --   hands-same         the same answer under another name, its number once it has been stored
@@ -7,14 +6,12 @@
 --   hands-given        values that fit, from what they leave in the area
 use mathlib.Core.Path.{_≡_, refl, sym, ap, subst, _∙_}
 use mathlib.Core.Bool.{Bool}
-use mathlib.Core.List.{List, [], _∷_, _++_}
-use Prim.Native.Nat.{ℕ, zero, suc, _+_, _≤_, _<_}
-use native.Mathlib.Nat.{not-suc-le-zero, le-of-suc-le-suc}
-use native.Mathlib.Numerals.{add-one}
+use mathlib.Core.List.{List, [], _∷_}
+use Prim.Native.Nat.{ℕ, zero, suc, _≤_, _<_}
 use native.Mathlib.Omega.{arith}
 use lib.IntN.{ℤ, pos}
 use borrow.Author.Tests.{lt-ltb, le-ltb}
-use lib.ListN.{length, set, getD, take, drop}
+use lib.ListN.{length, getD}
 use mir.Syntax.{w64}
 use lib.Signed.{mag}
 use mir.Val.{toZ, ofZ}
@@ -26,15 +23,6 @@ use Rattle.whole.proofs.Areas.{fills-none}
 use Rattle.sheet.specs.Choice.{if_then_else_}
 use Rattle.sheet.specs.Sheets.{Answer, given, refuse, with-given}
 use Rattle.yard.specs.Answers.{coded, fitted, valuesOf, Hands}
-
-more : (i : ℕ) (vs area : List ℤ) → i < length vs → i < length area → set (take i vs ++ drop i area) i (getD vs i (pos 0)) ≡ take (suc i) vs ++ drop (suc i) area
-more i [] area l m = absurd (not-suc-le-zero l)
-more i (v ∷ vs) [] l m = absurd (not-suc-le-zero m)
-more zero (v ∷ vs) (a ∷ area) l m = refl
-more (suc i) (v ∷ vs) (a ∷ area) l m = ap (λ (t : List ℤ). v ∷ t) (more i vs area (le-of-suc-le-suc l) (le-of-suc-le-suc m))
-
-pub put-more : (i : ℕ) (vs area : List ℤ) → i < length vs → i < length area → set (take i vs ++ drop i area) i (getD vs i (pos 0)) ≡ take (i + 1) vs ++ drop (i + 1) area
-put-more i vs area l m = rw add-one (more i vs area l m)
 
 abbrev pub spelled : ℕ → ℕ → List ℤ → List ℤ
 spelled zero at p = []

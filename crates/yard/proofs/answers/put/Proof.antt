@@ -9,7 +9,7 @@ use lib.ListN.{length, drop, take, set, getD, length-set}
 use lib.Seq.{take-all}
 use mir.Syntax.{w64}
 use mir.ValLaws.{toZ-ofZ}
-use Rattle.yard.proofs.Areas.{put-more}
+use Rattle.whole.proofs.Fill.{put-more}
 use Rattle.yard.proofs.answers.put.Statement.{statement}
 use Rattle.yard.proofs.answers.put.Tie as tie
 
@@ -48,7 +48,7 @@ loop-again c =
     let stored = toZ-ofZ w64 v (record { sfits = c .area .given }) in (
       omega arith,
       ap (set (l .area) (l .i)) stored ∙ ap (λ (xs : List ℤ). set xs (l .i) v) (l .inv .1)
-          ∙ put-more (l .i) (s .values .now) (s .area .now) (omega arith) (omega arith),
+          ∙ put-more (pos 0) (l .i) (s .values .now) (s .area .now) (omega arith) (omega arith),
       length-set (l .area) (l .i) _ ∙ l .inv .2,
     )
 
