@@ -14,8 +14,11 @@ use lib.Signed.{_<ℤ_}
 use Rattle.whole.specs.Poly.{Coefficients, at, scaled, square, Divides, Greatest}
 use Rattle.whole.specs.Number.{wholes, FirstPositive}
 use Rattle.whole.proofs.Wholes.{wholes-ring}
+use Rattle.whole.proofs.Squares.{Between, between-no-square}
 use Rattle.poly.specs.Terms.{value}
 use Rattle.poly.proofs.Lists.{at-scaled}
+use Rattle.poly.proofs.Zeros.{same-padded, above-zeros}
+use Rattle.poly.proofs.Value.{values-square}
 use Rattle.poly.proofs.Divisibility.{unit-divisor}
 use Rattle.pair.specs.declared.Pair.{Pair}
 use Rattle.pair.specs.Pairs.{pairs, times, norm}
@@ -33,7 +36,6 @@ use Rattle.curve.proofs.Coprime.{coprime-primitive, primitive-coprime}
 use Rattle.curve.proofs.Lengths.{generated-squared, squaredLength-lead-positive}
 use Rattle.curve.proofs.Norms.{generated-content}
 use Rattle.curve.proofs.Signs.{first-top}
-use Rattle.cases.proofs.Laws.{Between, between-no-square, same-padded, above-zeros, values-square}
 
 pub not-squared : (D : List Pair) (x y : ℤ) → Between (value wholes x (squaredLength D) *ℤ value wholes y (squaredLength D)) → NotSquared D
 not-squared D x y b c q h s = between-no-square b (c *ℤ (value wholes x q *ℤ value wholes y q)) (values-square wholes-ring (squaredLength D) q c x y s)

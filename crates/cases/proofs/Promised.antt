@@ -3,19 +3,21 @@
 --   no-row, ph-row, pre-row     a row of each verdict
 --   measured, long, turned, offset      the claims on a curve with a pre-image
 --   joins-row              a row of joins
-use mathlib.Core.Path.{_≡_, refl, sym, ap, subst}
+use mathlib.Core.Path.{_≡_, refl, sym, ap, subst, _∙_}
 use mathlib.Core.Bool.{false}
 use mathlib.Core.List.{List, [], _∷_, _++_}
 use mathlib.Core.Logic.{_≢_, inl, inr, ⊎-elim}
-use Prim.Native.Nat.{ℕ, _+_, _*_, _≤_, _<_}
+use Prim.Native.Nat.{ℕ, _+_, _-_, _*_, _≤_, _<_}
 use native.Mathlib.Omega.{arith}
-use lib.IntN.{ℤ, pos, natAbs, _*ℤ_}
-use lib.ListN.{length}
+use lib.IntN.{ℤ, pos, natAbs, _*ℤ_, zero-*ℤ}
+use lib.ListN.{length, replicate, length-append, length-replicate}
 use Rattle.refusal.specs.Table.{Cause, First}
 use Rattle.refusal.proofs.Laws.{first-after}
 use Rattle.whole.specs.Poly.{scaled}
 use Rattle.whole.specs.Area.{Fills}
 use Rattle.whole.specs.Number.{wholes, Within}
+use Rattle.whole.proofs.Linear.{linear}
+use Rattle.whole.proofs.Squares.{Between}
 use Rattle.poly.specs.Terms.{value}
 use Rattle.pair.specs.declared.Pair.{Pair}
 use Rattle.pair.specs.Pairs.{pairs, times, norm}
@@ -28,9 +30,10 @@ use Rattle.curve.specs.declared.Verdict.{Verdict}
 use Rattle.curve.specs.declared.Verdict.the-variants as verdict
 use Rattle.curve.specs.declared.PreimageAnswer.the-variants.{Found}
 use Rattle.curve.specs.Curves.{InRange, pointsOf, legPolynomial, squaredLength}
-use Rattle.curve.specs.Verdicts.{SquareOf, PreimageOf, Holds}
+use Rattle.curve.specs.Verdicts.{Still, SquareOf, PreimageOf, Holds}
 use Rattle.curve.specs.Promise.{out-of-range, still, not-ph, no-preimage, Recognised, Preimaged}
 use Rattle.curve.proofs.Known.{holds-number}
+use Rattle.curve.proofs.Lengths.{squaredLength-zero, not-squared-moves}
 use Rattle.curve.proofs.Refusals.{recognised-preimage}
 use Rattle.measure.specs.declared.Turning.{Turning}
 use Rattle.measure.specs.declared.LengthAnswer.the-variants.{Length}
@@ -42,7 +45,6 @@ use Rattle.offset.specs.declared.OffsetAnswer.the-variants.{Written}
 use Rattle.offset.specs.Offsets.{offsetCurve, offsetNumbers, needs, beyond, no-root, no-room, OffsetBy}
 use Rattle.join.specs.Listing as join
 use Rattle.cases.specs.Rows.{Claim, SaysAll, CurveHolds, Long, JoinsHold, filled}
-use Rattle.cases.proofs.Laws.{Between, filled-length, filled-fills, not-squared-moves, square-moves}
 use Rattle.cases.proofs.Certificates.{not-squared, not-generated}
 
 -- ---- verdicts
@@ -56,6 +58,12 @@ in-range (p ∷ ps) h = (record { re = record { size = omega arith }; im = recor
 
 recognised : (ps : List Pair) (v : Verdict) → spread ps ≤ 20000 → Holds (legPolynomial ps) v → Recognised ps v
 recognised ps v h k = record { refusal = inr (λ out. out (in-range ps h), holds-number (legPolynomial ps) v k); verdict = λ e. k }
+
+-- a curve whose N is c q² is not still: 0 would divide c
+square-moves : (D : List Pair) (s : Square) → SquareOf D s → Still D → ⊥
+square-moves D s h z =
+    let d = h .content .greatest (pos 0) (λ k. record { factor = pos 0; is = sym (squaredLength-zero D .0 z k) }) in
+    omega (linear, h .positive, sym (zero-*ℤ (d .factor)) ∙ d .is)
 
 abbrev D : Curve → List Pair
 D curve = legPolynomial (pointsOf curve)
@@ -78,6 +86,13 @@ module _ {curve : Curve} {claims : List Claim} (small : spread (pointsOf curve) 
   pre-row {p} h f =
       let r = recognised (pointsOf curve) (verdict.Pre p) small (square-moves (D curve) (p .square) (h .square-of), h) in
       record { recognised = r; said = f (recognised-preimage (pointsOf curve) (verdict.Pre p) r) }
+
+-- ---- an area made of an answer and zeros
+filled-length : (room : ℕ) (vs : List ℤ) → length vs ≤ room → length (filled room vs) ≡ room
+filled-length room vs h = omega (arith, length-append vs (replicate (room - length vs) (pos 0)), length-replicate (room - length vs) (pos 0))
+
+filled-fills : (room : ℕ) (vs : List ℤ) → length vs ≤ room → Fills vs (filled room vs)
+filled-fills room vs h = ap (λ n. vs ++ replicate (n - length vs) (pos 0)) (sym (filled-length room vs h))
 
 -- ---- claims on a curve with a pre-image
 -- why a curve in range has none

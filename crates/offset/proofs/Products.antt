@@ -1,6 +1,6 @@
 -- W x + h D by powers of W, from the highest down, and its size.
 --   rowOf                   the coefficients of w x + h d
---   row-within, rowSize     where the coefficients of w, x, h and d are within their bounds, those of w x + h d are within these
+--   rowSize                 where the coefficients of w, x, h and d are within their bounds, those of w x + h d are within these
 --   rowSize-most            of which none is above n · 3.2 · 10¹³ and the size of h d, for n powers of w
 --   Stage                   a Ten that holds w x + h d, where w and d have n coefficients
 --   stage-none, stage-step, stage-within     `joined` makes the next stage of it; its size
@@ -12,7 +12,7 @@ use Prim.Native.Nat.{ℕ, zero, suc, _+_, _*_, _≤_, zero-le}
 use native.Mathlib.Nat.{mul-le-mul}
 use native.Mathlib.Omega.{arith}
 use lib.IntN.{ℤ, pos, _+ℤ_, _*ℤ_, +ℤ-assoc, +ℤ-idl, *ℤ-zero}
-use lib.ListN.{length, getD, replicate, List·getD-eq-default}
+use lib.ListN.{length, getD, List·getD-eq-default}
 use Rattle.whole.specs.Poly.{at, scaled, product}
 use Rattle.whole.specs.Number.{wholes, Within}
 use Rattle.whole.proofs.Integers.{abs-times, abs-zero}
@@ -20,6 +20,7 @@ use Rattle.whole.proofs.Wholes.{wholes-ring}
 use Rattle.whole.proofs.Bound.{abs-plus}
 use Rattle.poly.proofs.Series.{Series, tail, conv, conv-none, conv-suc}
 use Rattle.poly.proofs.Lists.{at-sum, at-scaled, at-product}
+use Rattle.poly.proofs.Zeros.{at-zeros}
 use Rattle.offset.specs.declared.Six.{Six}
 use Rattle.offset.specs.declared.Ten.{Ten}
 use Rattle.offset.specs.Steps.{six, ten, joinedTo, RowAsked, IsRow}
@@ -32,7 +33,7 @@ row-suc w x h d k =
     ap (λ z. z +ℤ h *ℤ d (suc k)) (conv-suc wholes-ring w x k) ∙ +ℤ-assoc (w zero *ℤ x (suc k)) (conv wholes (tail w) x k) (h *ℤ d (suc k))
 
 -- ---- sizes
-abbrev pub xSize : ℕ → ℕ
+abbrev xSize : ℕ → ℕ
 xSize k = getD (1600000 ∷ 1600000 ∷ 1600000 ∷ 1600000 ∷ 1600000 ∷ 1600000 ∷ []) k 0
 
 abbrev pub rowSize : ℕ → ℕ → ℕ
@@ -47,7 +48,7 @@ times-within : {a b : ℤ} {A B : ℕ} → Within A a → Within B b → Within 
 times-within {a} {b} h k = record { size = omega (arith, abs-times a b, mul-le-mul (h .size) (k .size)) }
 
 module _ {x : Series ℤ} {h : ℤ} (hx : (k : ℕ) → Within (xSize k) (x k)) (hh : Within 20000 h) where
-  pub row-within : (n : ℕ) (w d : Series ℤ) → ((k : ℕ) → Within 20000000 (w k)) → ((k : ℕ) → Within 1280000 (d k)) → ((k : ℕ) → n ≤ k → w k ≡ pos 0)
+  row-within : (n : ℕ) (w d : Series ℤ) → ((k : ℕ) → Within 20000000 (w k)) → ((k : ℕ) → Within 1280000 (d k)) → ((k : ℕ) → n ≤ k → w k ≡ pos 0)
       → ((k : ℕ) → n ≤ k → d k ≡ pos 0) → (k : ℕ) → Within (rowSize n k) (rowOf w x h d k)
   unfolding conv
   row-within zero w d hw hd zw zd k =
@@ -100,11 +101,6 @@ pub record Stage (x : Six) (h : ℤ) (n : ℕ) (p : Ten) (w d : List ℤ) : Type
   pub d-small : (k : ℕ) → Within 1280000 (at wholes d k)
   pub row : (k : ℕ) → at wholes (ten p) k ≡ rowOf (at wholes w) (at wholes (six x)) h (at wholes d) k
 
-zeros : (n k : ℕ) → at wholes (replicate n (pos 0)) k ≡ pos 0
-zeros zero k = refl
-zeros (suc n) zero = refl
-zeros (suc n) (suc k) = zeros n k
-
 abbrev pub none : Ten
 none = record { e0 = pos 0; e1 = pos 0; e2 = pos 0; e3 = pos 0; e4 = pos 0; e5 = pos 0; e6 = pos 0; e7 = pos 0; e8 = pos 0; e9 = pos 0 }
 
@@ -114,7 +110,7 @@ stage-none x h = record {
   d-long = refl;
   w-small = λ k. record { size = zero-le };
   d-small = λ k. record { size = zero-le };
-  row = λ k. zeros 10 k ∙ sym (ap₂ _+ℤ_ (conv-none wholes-ring (at wholes (six x)) k) (*ℤ-zero h));
+  row = λ k. at-zeros wholes 10 k ∙ sym (ap₂ _+ℤ_ (conv-none wholes-ring (at wholes (six x)) k) (*ℤ-zero h));
 }
 
 module _ {x : Six} {h : ℤ} (hx : (k : ℕ) → Within 1600000 (at wholes (six x) k)) (hh : Within 20000 h) where

@@ -1,6 +1,7 @@
 -- The theory of polynomials over any ring with the laws.
 pub mod Series
 pub mod Lists
+pub mod Zeros
 pub mod Value
 pub mod Domain
 pub mod Top

@@ -1,10 +1,11 @@
--- Roots of natural numbers: Newton's step from above, and that each root has one answer.
+-- Roots of natural numbers: Newton's step from above, and that each root has one answer; and numbers that are no squares.
 --   root-positive       what is at or above the root of a number other than 0 is positive
 --   newton-above        the mean of r and n / r is at or above the root of n, for any r
 --   square-digit        the last six binary digits of a square are among those that a number of 64 digits marks
 --   floor-root-once     the floor of a root is one number
 --   floor-root-is       and of k² it is k
 --   root-once           a square root has one answer
+--   Between, between-no-square     a whole number strictly between two squares that follow each other is no square
 use mathlib.Core.Path.{_≡_, refl, sym, ap, _∙_, subst}
 use mathlib.Core.Bool.{Bool, true, _&&_, and-eq-true-iff}
 use mathlib.Core.Logic.{_≢_}
@@ -14,9 +15,11 @@ use native.Mathlib.Numerals.{add-one}
 use native.Mathlib.Decide.{decLe, decLt}
 use lib.Dec.{eqb, lit<}
 use native.Mathlib.Omega.{arith}
+use lib.IntN.{ℤ, pos, natAbs, _*ℤ_}
 use Rattle.whole.specs.Roots.{FloorRoot, IsRoot}
 use Rattle.whole.specs.declared.Root.{Root}
 use Rattle.whole.specs.declared.Root.the-variants.{Square, NotSquare}
+use Rattle.whole.proofs.Integers.{abs-times}
 
 pub root-positive : (n r : ℕ) → n ≢ 0 → n < (r + 1) * (r + 1) → 0 < r
 root-positive n zero h l = absurd (h (omega arith))
@@ -92,3 +95,17 @@ root-once n (Square a) (Square b) e f = ap Square (floor-root-is (record { low =
 root-once n (Square a) NotSquare e f = absurd (f a e)
 root-once n NotSquare (Square b) e f = absurd (e b f)
 root-once n NotSquare NotSquare e f = refl
+
+-- ---- whole numbers
+pub record Between (v : ℤ) : Type 0 where
+  pub k : ℕ
+  pub n : ℕ
+  pub is : v ≡ pos n
+  pub above : k * k < n
+  pub below : n < suc k * suc k
+
+pub between-no-square : {v : ℤ} → Between v → (m : ℤ) → v ≢ m *ℤ m
+between-no-square h m e =
+    let f : natAbs m * natAbs m ≡ h .n = sym (abs-times m m) ∙ ap natAbs (sym e ∙ h .is) in
+    let g : h .k ≡ natAbs m = floor-root-is (record { low = omega (arith, h .above); high = omega (arith, h .below) }) (natAbs m) f in
+    omega (arith, h .above, f, ap (λ r. r * r) g)
