@@ -10,6 +10,7 @@ pub mod Bound
 pub mod Machine
 pub mod Division
 pub mod Divisor
+pub mod Evens
 pub mod Fill
 pub mod Areas
 pub mod Flags

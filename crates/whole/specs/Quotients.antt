@@ -3,9 +3,10 @@
 --   IsQuotient       the exact quotient, or that there is none
 --   Shares n d       d divides n and is positive, and both are within the bound of a curve's numbers
 --   Nearest n d q    q is the whole number nearest to n / d; of two that are equally near, the lower
+--   OddPart n r      r is what is left of n without its factors of 2
 use mathlib.Core.Path.{_≡_}
 use mathlib.Core.Logic.{_≢_}
-use Prim.Native.Nat.{_-_, _^_}
+use Prim.Native.Nat.{ℕ, _-_, _*_, _%_, _^_}
 use lib.IntN.{ℤ, pos, negsuc, negℤ, _-ℤ_, _*ℤ_}
 use lib.Signed.{_≤ℤ_, _<ℤ_}
 use Rattle.whole.specs.Poly.{Divides}
@@ -31,3 +32,8 @@ pub record Shares (n d : ℤ) : Type 0 where
 pub record Nearest (n d q : ℤ) : Type 0 where
   pub low : negℤ d <ℤ (pos 2 *ℤ (n -ℤ q *ℤ d))
   pub high : (pos 2 *ℤ (n -ℤ q *ℤ d)) ≤ℤ d
+
+pub record OddPart (n r : ℕ) : Type 0 where
+  pub odd : r % 2 ≡ 1
+  pub power : ℕ
+  pub is : r * 2 ^ power ≡ n

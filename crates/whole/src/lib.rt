@@ -2,12 +2,13 @@
 ghost use mathlib.Core.Path.{_≡_};
 ghost use mathlib.Core.List.{_∷_, []};
 ghost use mathlib.Core.Logic.{_≢_};
+ghost use Prim.Native.Nat.{_%_};
 ghost use lib.IntN.{pos, natAbs, _*ℤ_};
 ghost use lib.Signed.{_<ℤ_};
 ghost use Rattle.whole.specs.Area.{Cleared};
 ghost use Rattle.whole.specs.Number.{wholes, Within};
 ghost use Rattle.whole.specs.Poly.{Greatest};
-ghost use Rattle.whole.specs.Quotients.{Divisible, IsQuotient, Shares, Nearest};
+ghost use Rattle.whole.specs.Quotients.{Divisible, IsQuotient, Shares, Nearest, OddPart};
 ghost use Rattle.whole.specs.Roots.{Above, Passes, FloorRoot, IsRoot};
 
 // A quotient that has to be whole.
@@ -115,21 +116,45 @@ pub fn size(x: i64) -> u64
     }
 }
 
-// Euclid's loop. A zero in a list takes no step.
+// n with its factors of 2 taken out.
+fn odd_part(n: u64) -> u64
+    requires { ⌜ n ≢ 0 ⌝ }
+    ensures { λ r. ⌜ OddPart n r ⌝ }
+{
+    n >> u64::trailing_zeros(n)
+}
+
+// The greatest common divisor of two odd numbers. Their difference is even, and its factors of 2 do not matter.
+fn odd_common(a: u64, b: u64) -> u64
+    requires { ⌜ (a % 2 ≡ 1) × (b % 2 ≡ 1) ⌝ }
+    ensures { λ g. ⌜ Greatest wholes (pos a ∷ pos b ∷ []) (pos g) ⌝ }
+{
+    let mut x = a;
+    let mut y = b;
+    while x != y {
+        if x < y {
+            y = odd_part(y - x);
+        } else {
+            x = odd_part(x - y);
+        }
+    }
+    x
+}
+
+// The greatest common divisor by shifts. The smaller power of 2 is common to both.
 fn common(a: u64, b: u64) -> u64
     ensures { λ g. ⌜ Greatest wholes (pos a ∷ pos b ∷ []) (pos g) ⌝ }
 {
     if a == 0 {
         return b;
     }
-    let mut x = a;
-    let mut y = b;
-    while y != 0 {
-        let t = x % y;
-        x = y;
-        y = t;
+    if b == 0 {
+        return a;
     }
-    x
+    let i = u64::trailing_zeros(a);
+    let j = u64::trailing_zeros(b);
+    let g = odd_common(a >> i, b >> j);
+    if i < j { g << i } else { g << j }
 }
 
 // The greatest common divisor of two numbers.

@@ -1,67 +1,92 @@
--- `whole::common` meets its contract. The invariant: x and y have the common divisors of a and b.
-use mathlib.Core.Path.{_≡_, ap, sym, subst}
-use mathlib.Core.Logic.{_↔_, Iff·rfl, Iff·symm, Iff·trans}
-use Prim.Native.Nat.{ℕ, _/_}
-use native.Mathlib.Nat.{mod-lt, pos-of-ne-zero, div-add-mod'}
-use lib.IntN.{ℤ, pos}
+-- `whole::common` meets its contract: the odd parts' divisor, and the smaller power of 2. It divides a number that fits, so it fits.
+use mathlib.Core.Path.{_≡_, sym, subst}
+use mathlib.Core.Logic.{_≢_}
+use Prim.Native.Nat.{ℕ, _*_, _/_, _%_, _^_, _≤_, _<_}
+use native.Mathlib.Nat.{mod-eq-of-lt, lt-of-le-of-lt}
+use native.Mathlib.Omega.{arith}
+use lib.IntN.{pos}
 use Rattle.whole.specs.Poly.{Divides}
 use Rattle.whole.specs.Number.{wholes}
 use Rattle.whole.proofs.Wholes.{wholes-ring}
-use Rattle.whole.proofs.Divisor.{divides-none, common-two, greatest-is, division-common}
+use Rattle.whole.proofs.Divisor.{divides-none}
+use Rattle.whole.proofs.Evens.{Zeros, zeros, zeros-end, Shared, shared-greatest, greatest-shared, shared-turned, shared-le, shared-powers}
 use Rattle.whole.proofs.common.Statement.{statement}
 use Rattle.whole.proofs.common.Tie as tie
 
-abbrev Both : ℤ → ℕ → ℕ → Type 0
-Both d x y = Divides wholes d (pos x) × Divides wholes d (pos y)
+with-zero : {x y : ℕ} → y ≡ 0 → Shared x x y
+with-zero e d = (λ h. (h, subst (λ (n : ℕ). Divides wholes d (pos n)) (sym e) (divides-none wholes-ring d)), λ h. h .0)
 
-abbrev Inv-loop : tie.InvT-loop
-Inv-loop a b x₀ y₀ x y = (d : ℤ) → Both d x y ↔ Both d a b
+shifted-back : {a b g : ℕ} → a ≢ 0 → a < 2 ^ 64 → Zeros a → Zeros b → zeros a ≤ zeros b → Shared g (a / 2 ^ zeros a) (b / 2 ^ zeros b)
+    → Shared (g * 2 ^ zeros a % 2 ^ 64) a b
+shifted-back {a} {b} {g} s f x y l h =
+    let all : Shared (g * 2 ^ zeros a) a b = subst (λ X. X) (λ i. Shared (g * 2 ^ zeros a) (x .is i) (y .is i)) (shared-powers (zeros a) (zeros b) (x .odd) l h) in
+    subst (λ (n : ℕ). Shared n a b) (sym (mod-eq-of-lt (lt-of-le-of-lt (shared-le s all) f))) all
 
-abbrev μ-loop : tie.MeasureT-loop
-μ-loop a b x₀ y₀ x y = y
+module _ (c : tie.Else2) where
+  zeros-a : Zeros (c .before .before .args .a)
+  zeros-a = zeros-end (c .before .before .args .a) (c .before .if1 .left) (c .before .before .fits .a .fits)
 
--- d divides x just where it divides x and 0
-with-zero : (d : ℤ) (x y : ℕ) → y ≡ 0 → Divides wholes d (pos x) ↔ Both d x y
-with-zero d x y e = (λ h. (h, subst (λ (n : ℕ). Divides wholes d (pos n)) (sym e) (divides-none wholes-ring d)), λ h. h .0)
+  zeros-b : Zeros (c .before .before .args .b)
+  zeros-b = zeros-end (c .before .before .args .b) (c .if2 .left) (c .before .before .fits .b .fits)
 
-returns : tie.Need-returns Inv-loop μ-loop
-returns c =
-    let s = c .before .args in
-    greatest-is wholes-ring
-    (λ d. Iff·trans (with-zero d (s .b) (s .a) (c .if1 .taken)) (Iff·trans (λ h. (h .1, h .0), λ h. (h .1, h .0)) (Iff·symm (common-two wholes-ring d (pos (s .a)) (pos (s .b))))))
+returns : tie.Need-returns
+returns c = shared-greatest (shared-turned (with-zero (c .if1 .taken)))
 
-loop-holds : tie.Need-loop-holds Inv-loop μ-loop
-loop-holds c d = Iff·rfl
+returns-2 : tie.Need-returns-2
+returns-2 c = shared-greatest (with-zero (c .if2 .taken))
 
-rem-t : tie.Need-rem-t Inv-loop μ-loop
-rem-t c = pos-of-ne-zero (c .loop-test .taken)
+cast-odd-common : tie.Need-cast-odd-common
+cast-odd-common c = omega (arith, zeros-a c .below)
 
-loop-less : tie.Need-loop-less Inv-loop μ-loop
-loop-less c = mod-lt (c .before .loop .x) (pos-of-ne-zero (c .loop-test .taken))
+shr-odd-common : tie.Need-shr-odd-common
+shr-odd-common c = zeros-a c .below
 
-loop-again : tie.Need-loop-again Inv-loop μ-loop
-loop-again c d =
-    let x = c .before .loop .x in
-    let y = c .before .loop .y in
-    Iff·trans (division-common wholes-ring {q = pos (x / y)} (ap pos (div-add-mod' x y)) d) (c .before .loop .inv d)
+cast-odd-common-2 : tie.Need-cast-odd-common-2
+cast-odd-common-2 c = omega (arith, zeros-b c .below)
 
-returns-2 : tie.Need-returns-2 Inv-loop μ-loop
-returns-2 c =
-    let s = c .before .before .before .args in
-    greatest-is wholes-ring
-    (λ d. Iff·trans
-    (with-zero d (c .before .loop .x) (c .before .loop .y) (c .loop-test .left))
-    (Iff·trans (c .before .loop .inv d) (Iff·symm (common-two wholes-ring d (pos (s .a)) (pos (s .b))))))
+shr-odd-common-2 : tie.Need-shr-odd-common-2
+shr-odd-common-2 c = zeros-b c .below
+
+odd-common-requires : tie.Need-odd-common-requires
+odd-common-requires c κs = (zeros-a c .odd, zeros-b c .odd)
+
+cast-result : tie.Need-cast-result
+cast-result c = omega (arith, zeros-a (c .before .before) .below)
+
+shl-result : tie.Need-shl-result
+shl-result c = zeros-a (c .before .before) .below
+
+cast-result-2 : tie.Need-cast-result-2
+cast-result-2 c = omega (arith, zeros-b (c .before .before) .below)
+
+shl-result-2 : tie.Need-shl-result-2
+shl-result-2 c = zeros-b (c .before .before) .below
+
+returns-3 : tie.Need-returns-3
+returns-3 c =
+    let s = c .before .before in
+    shared-greatest (shifted-back (s .before .if1 .left) (s .before .before .fits .a .fits) (zeros-a s) (zeros-b s) (omega arith) (greatest-shared (c .before .odd-common .ensures)))
+
+returns-4 : tie.Need-returns-4
+returns-4 c =
+    let s = c .before .before in
+    shared-greatest
+    (shared-turned (shifted-back (s .if2 .left) (s .before .before .fits .b .fits) (zeros-b s) (zeros-a s) (omega arith) (shared-turned (greatest-shared (c .before .odd-common .ensures)))))
 
 pub common-spec : {M : Type 1} → statement M
 common-spec =
     tie.close
     (tie.spec
-    Inv-loop
-    μ-loop
     returns
-    loop-holds
-    rem-t
-    loop-less
-    loop-again
-    returns-2)
+    returns-2
+    cast-odd-common
+    shr-odd-common
+    cast-odd-common-2
+    shr-odd-common-2
+    odd-common-requires
+    cast-result
+    shl-result
+    cast-result-2
+    shl-result-2
+    returns-3
+    returns-4)
