@@ -36,7 +36,7 @@ int64_t flint_recognise(const int64_t *p, size_t n, int64_t *out, size_t room);
 /* A job as one of those who do it, and one pass of it over its inputs. */
 typedef void any_call(void);
 struct row {
-    const char *job, *who, *symbol;
+    const char *job, *who;
     any_call *call;
     void (*pass)(const struct row *row);
     int64_t verdict; /* of the curves that the pass is over; ALL for the whole mix */
@@ -47,6 +47,9 @@ extern const size_t row_count;
 
 /* How many calls a pass makes. */
 size_t calls_of(const struct row *row);
+
+/* A pass of which a counter of instructions sees the calls alone. */
+void pass_counted(const struct row *row);
 
 /* Whether all answers to the inputs are the same; says the first that are not. */
 int all_agree(void);

@@ -4,6 +4,13 @@
 #include <stdio.h>
 #include <string.h>
 
+/* Where valgrind is not installed, nothing is counted. */
+#if __has_include(<valgrind/callgrind.h>)
+#include <valgrind/callgrind.h>
+#else
+#define CALLGRIND_TOGGLE_COLLECT
+#endif
+
 typedef int64_t recognise_call(const int64_t *, size_t, int64_t *, size_t);
 typedef int64_t joins_call(int64_t, int64_t, int64_t, int64_t, int64_t, int64_t, int64_t *, size_t);
 typedef int64_t check_call(const uint8_t *, size_t);
@@ -33,9 +40,14 @@ static void report_one(const struct row *row, const uint8_t *sheet) {
     returned = ((report_call *)row->call)(sheet, YARD_SHEET_BYTES, area.text, sizeof area.text);
 }
 
+/* Whether the pass makes a call on input k. */
+static int has(const struct row *row, size_t k) {
+    return row->verdict == ALL || row->verdict == curves[k].verdict;
+}
+
 static void pass_recognise(const struct row *row) {
     for (size_t k = 0; k < CURVES; k++)
-        if (row->verdict == ALL || row->verdict == curves[k].verdict)
+        if (has(row, k))
             recognise_one(row, &curves[k]);
 }
 
@@ -54,7 +66,7 @@ static void pass_report(const struct row *row) {
         report_one(row, sheets[k]);
 }
 
-#define CALL(name) #name, (any_call *)name
+#define CALL(name) (any_call *)name
 #define RECOGNISERS(job, verdict) \
     {job, "library", CALL(yard_recognise), pass_recognise, verdict}, \
     {job, "plain", CALL(plain_recognise), pass_recognise, verdict}, \
@@ -84,15 +96,13 @@ static size_t inputs_of(const struct row *row) {
 }
 
 size_t calls_of(const struct row *row) {
-    size_t calls = row->verdict == ALL ? inputs_of(row) : 0;
-    for (size_t k = 0; k < CURVES; k++)
-        calls += row->verdict != ALL && curves[k].verdict == row->verdict;
+    size_t calls = 0;
+    for (size_t k = 0; k < inputs_of(row); k++)
+        calls += (size_t)has(row, k);
     return calls;
 }
 
-/* One call on input k. The area is not clean before: a call that leaves some of it is found out. */
-static void one(const struct row *row, size_t k, int junk) {
-    memset(&area, junk, sizeof area);
+static void one(const struct row *row, size_t k) {
     if (row->pass == pass_recognise)
         recognise_one(row, &curves[k]);
     else if (row->pass == pass_joins)
@@ -101,6 +111,21 @@ static void one(const struct row *row, size_t k, int junk) {
         check_one(row, sheets[k]);
     else
         report_one(row, sheets[k]);
+}
+
+void pass_counted(const struct row *row) {
+    for (size_t k = 0; k < inputs_of(row); k++)
+        if (has(row, k)) {
+            CALLGRIND_TOGGLE_COLLECT;
+            one(row, k);
+            CALLGRIND_TOGGLE_COLLECT;
+        }
+}
+
+/* One call on input k. The area is not clean before: a call that leaves some of it is found out. */
+static void one_on(const struct row *row, size_t k, int junk) {
+    memset(&area, junk, sizeof area);
+    one(row, k);
 }
 
 static size_t area_of(const struct row *row) {
@@ -118,10 +143,10 @@ int all_agree(void) {
         if (strcmp(row->who, "library") == 0)
             library = row;
         for (size_t k = 0; k < inputs_of(row); k++) {
-            one(library, k, 1);
+            one_on(library, k, 1);
             int64_t count = returned;
             memcpy(expected, &area, sizeof area);
-            one(row, k, 2);
+            one_on(row, k, 2);
             if (returned < 0 || returned != count || memcmp(expected, &area, area_of(row)) != 0) {
                 fprintf(stderr, "bench: %s: input %zu: %s differs from the library\n", row->job, k, row->who);
                 return 0;

@@ -8,13 +8,6 @@
 #include <string.h>
 #include <time.h>
 
-/* Where valgrind is not installed, nothing is counted. */
-#if __has_include(<valgrind/callgrind.h>)
-#include <valgrind/callgrind.h>
-#else
-#define CALLGRIND_ZERO_STATS
-#endif
-
 enum { MOST_ROUNDS = 1001, MOST_ROWS = 40 };
 
 /* The processor's time in nanoseconds, not the wall's: a long pass is interrupted more often than a short one. */
@@ -58,7 +51,7 @@ static double median(double *x, size_t count) {
     return x[count / 2];
 }
 
-/* A line: job, who, the function's name, ns a call, times the library's time. */
+/* A line: job, who, ns a call, times the library's time. */
 static void print_medians(const struct row *row, const double *ns, const double *library, size_t rounds) {
     static double times[MOST_ROUNDS], ratios[MOST_ROUNDS];
     for (size_t r = 0; r < rounds; r++) {
@@ -66,13 +59,13 @@ static void print_medians(const struct row *row, const double *ns, const double 
         ratios[r] = ns[r] / library[r];
     }
     double ratio = median(ratios, rounds);
-    printf("%s|%s|%s|%.1f|%.3f\n", row->job, row->who, row->symbol, median(times, rounds), ratio);
+    printf("%s|%s|%.1f|%.3f\n", row->job, row->who, median(times, rounds), ratio);
 }
 
 /* All rows in each round, so that what disturbs the machine disturbs all alike. The command is PARI's. */
 static void time_all(size_t rounds, const char *command) {
     static double ns[MOST_ROWS + 1][MOST_ROUNDS];
-    const struct row pari = {"recognise", "PARI", "-", NULL, NULL, ALL};
+    const struct row pari = {"recognise", "PARI", NULL, NULL, ALL};
     for (size_t r = 0; r < rounds; r++) {
         for (size_t k = 0; k < row_count; k++)
             ns[k][r] = time_of(&rows[k]);
@@ -107,12 +100,11 @@ static void print_answers(void) {
     }
 }
 
-/* One pass, for a counter of instructions; prints how many calls it made. The calls of the drawing do not count. */
+/* One pass, for a counter of instructions; prints how many calls it made. */
 static int count_one(const char *job, const char *who) {
     for (size_t k = 0; k < row_count; k++)
         if (strcmp(rows[k].job, job) == 0 && strcmp(rows[k].who, who) == 0) {
-            CALLGRIND_ZERO_STATS;
-            rows[k].pass(&rows[k]);
+            pass_counted(&rows[k]);
             printf("%zu\n", calls_of(&rows[k]));
             return 0;
         }
