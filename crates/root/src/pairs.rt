@@ -1,9 +1,8 @@
-// The square root of a polynomial over pairs, as that over whole numbers: two quotients downward, and one comparison.
+// The square root of a polynomial over pairs, as that over whole numbers: quotients downward, and one comparison.
 use pair::Pair;
 ghost use mathlib.Core.Path.{_≡_};
-ghost use mathlib.Core.List.{_∷_};
 ghost use mathlib.Core.Logic.{_≢_};
-ghost use Prim.Native.Nat.{_^_, _≤_};
+ghost use Prim.Native.Nat.{_^_, _/_, _%_, _≤_};
 ghost use Rattle.whole.specs.Number.{Tells};
 ghost use Rattle.whole.specs.Poly.{at, Same, square};
 ghost use Rattle.poly.specs.Terms.{Above, Top};
@@ -101,8 +100,25 @@ fn small_quotient(n: Pair, t: Pair) -> Pair
     }
 }
 
-// The only polynomial that can be a root of e with s at the second power.
-fn candidate(e: Five, s: Pair) -> Quadratic
+// The coefficient at the power l, which is even.
+fn lead(e: Five, l: u64) -> Pair
+    requires { ⌜ (l ≤ 4) × (l % 2 ≡ 0) ⌝ }
+    ensures { λ r. ⌜ r ≡ at pairs (five e) l ⌝ }
+{
+    let e0 = e.e0;
+    let e2 = e.e2;
+    let e4 = e.e4;
+    if l == 4 {
+        return e4;
+    }
+    if l == 2 {
+        return e2;
+    }
+    e0
+}
+
+// The only polynomial that can be a root of e with s at the second power,
+fn quadratic_candidate(e: Five, s: Pair) -> Quadratic
     requires { ⌜ AllWithin 2000000 (five e) × SmallPair s × (s ≢ pairs .none) ⌝ }
     ensures { λ w. ⌜ Candidate pairs SmallPair (five e) 2 s (quadratic w) ⌝ }
 {
@@ -114,68 +130,54 @@ fn candidate(e: Five, s: Pair) -> Quadratic
     Quadratic { b0, b1, b2: s }
 }
 
-// The root of a polynomial with a coefficient at the fourth power.
-fn quadratic_root(e: Five) -> PairRoot
-    requires { ⌜ AllWithin 2000000 (five e) × Top pairs (five e) 4 ⌝ }
+// and the only one with s at the first.
+fn linear_candidate(e: Five, s: Pair) -> Quadratic
+    requires { ⌜ AllWithin 2000000 (five e) × SmallPair s × (s ≢ pairs .none) ⌝ }
+    ensures { λ w. ⌜ Candidate pairs SmallPair (five e) 1 s (quadratic w) × (w .b2 ≡ pairs .none) ⌝ }
+{
+    let e1 = e.e1;
+    let b0 = small_quotient(e1, pair::sum(s, s));
+    Quadratic {
+        b0,
+        b1: s,
+        b2: Pair { re: 0, im: 0 },
+    }
+}
+
+// The only polynomial that can be a root of e with s at half of the power l.
+fn candidate(e: Five, l: u64, s: Pair) -> Quadratic
+    requires { ⌜ AllWithin 2000000 (five e) × SmallPair s × (s ≢ pairs .none) × (l ≤ 4) × (l % 2 ≡ 0) ⌝ }
+    ensures { λ w. ⌜ Candidate pairs SmallPair (five e) (l / 2) s (quadratic w) × Above pairs (at pairs (quadratic w)) (l / 2) ⌝ }
+{
+    if l == 4 {
+        return quadratic_candidate(e, s);
+    }
+    if l == 2 {
+        return linear_candidate(e, s);
+    }
+    let none = Pair { re: 0, im: 0 };
+    Quadratic {
+        b0: s,
+        b1: none,
+        b2: none,
+    }
+}
+
+// The root of a polynomial whose highest power is l: that of a square is even, and its coefficient is a square.
+pub fn pair_root(e: Five, l: u64) -> PairRoot
+    requires { ⌜ AllWithin 2000000 (five e) × Top pairs (five e) l × (l ≤ 4) ⌝ }
     ensures { λ r. ⌜ IsPairRoot (five e) r ⌝ }
 {
-    let e4 = e.e4;
-    let divisor::PairRoot::Root(s) = divisor::root(e4) else {
+    if l % 2 == 1 {
+        return PairRoot::NoRoot;
+    }
+    let divisor::PairRoot::Root(s) = divisor::root(lead(e, l)) else {
         return PairRoot::NoRoot;
     };
-    let w = candidate(e, s);
+    let w = candidate(e, l, s);
     if same(square(w), e) {
         PairRoot::Root(w)
     } else {
         PairRoot::NoRoot
     }
-}
-
-// t² e, where e has no power above the second.
-fn raised(e: Five) -> Five
-    requires { ⌜ Above pairs (at pairs (five e)) 2 ⌝ }
-    ensures { λ r. ⌜ Same pairs (five r) (pairs .none ∷ pairs .none ∷ five e) ⌝ }
-{
-    let none = Pair { re: 0, im: 0 };
-    let e0 = e.e0;
-    let e1 = e.e1;
-    let e2 = e.e2;
-    Five {
-        e0: none,
-        e1: none,
-        e2: e0,
-        e3: e1,
-        e4: e2,
-    }
-}
-
-// w / t, where w has no constant coefficient.
-fn lowered(w: Quadratic) -> Quadratic
-    requires { ⌜ w .b0 ≡ pairs .none ⌝ }
-    ensures { λ r. ⌜ Same pairs (quadratic w) (pairs .none ∷ quadratic r) ⌝ }
-{
-    let b1 = w.b1;
-    let b2 = w.b2;
-    Quadratic {
-        b0: b1,
-        b1: b2,
-        b2: Pair { re: 0, im: 0 },
-    }
-}
-
-// The root of a polynomial whose highest power is l: that of a square is even. Below the fourth power it is that of t² e, divided by t.
-pub fn pair_root(e: Five, l: u64) -> PairRoot
-    requires { ⌜ AllWithin 2000000 (five e) × Top pairs (five e) l × (l ≤ 4) ⌝ }
-    ensures { λ r. ⌜ IsPairRoot (five e) r ⌝ }
-{
-    if l == 4 {
-        return quadratic_root(e);
-    }
-    if l % 2 == 1 {
-        return PairRoot::NoRoot;
-    }
-    let PairRoot::Root(w) = pair_root(raised(e), l + 2) else {
-        return PairRoot::NoRoot;
-    };
-    PairRoot::Root(lowered(w))
 }
