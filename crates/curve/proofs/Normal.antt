@@ -123,7 +123,7 @@ preimage-found D s κ w a n h e = by (first-found (r .factor) (r .factor-some))
     G : (g : Pair) × Greatest pairs D g
     G = content pairs-ring pairs-bezout D
 
-    r : Reduced D (G .0)
+    r : Reduced D
     r = reduced D (G .0) κ w (G .1) n e
 
     signed : (κ : Pair) (w : List Pair) → Generated D κ w → Coprime w → FirstPositive (κ .re) (κ .im) → (p : Preimage) × PreimageOf D p

@@ -48,16 +48,15 @@ generated-square-of D κ w q n h l e s = record {
   lead = lead-same (λ k. sym (s k)) (squaredLength-lead-positive (first-top l));
 }
 
--- D = κ w² with w primitive, and |κ|² is that of D's greatest common divisor
-pub record Reduced (D : List Pair) (g : Pair) : Type 0 where
+-- D = κ w² with w primitive
+pub record Reduced (D : List Pair) : Type 0 where
   pub factor : Pair
   pub factor-some : factor ≢ pairs .none
-  pub factor-norm : norm factor ≡ norm g
   pub root : List Pair
   pub root-primitive : Primitive pairs root
   pub generated : Generated D factor root
 
-pub reduced : (D : List Pair) (g κ : Pair) (w : List Pair) → Greatest pairs D g → (Still D → ⊥) → Generated D κ w → Reduced D g
+pub reduced : (D : List Pair) (g κ : Pair) (w : List Pair) → Greatest pairs D g → (Still D → ⊥) → Generated D κ w → Reduced D
 reduced D g κ w h n e =
     let (E, j) = quotients pairs-ring g D (h .divides) in
     let g-some : g ≢ pairs .none = greatest-some pairs-ring h n in
@@ -66,7 +65,6 @@ reduced D g κ w h n e =
     record {
       factor = times g (r .unit);
       factor-some = λ z. g-some (norm-zero g (sym same ∙ ap norm z));
-      factor-norm = same;
       root = r .root;
       root-primitive = r .root-primitive;
       generated = λ k. sym (j k) ∙ square-multiple pairs-ring g (r .unit) E (r .root) (r .squared) k;
