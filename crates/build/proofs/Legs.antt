@@ -1,7 +1,7 @@
 -- The legs of a source, and the points that go by them.
 --   legs-once                 a source has one list of legs
 --   outside                   where their points are out of range, that cause holds
---   legs-squared              from Bernstein to power coefficients, the legs are the square of the w's
+--   points-squared            the leg polynomial of their points is the square of the w's, from Bernstein to power coefficients
 --   third-found               a third of t shows that 3 divides both parts of t
 --   points-on, points-end     one point more, and no more
 use mathlib.Core.Path.{_≡_, refl, sym, ap, _∙_, subst}
@@ -13,10 +13,10 @@ use Rattle.whole.specs.Poly.{Same, square}
 use Rattle.pair.specs.declared.Pair.{Pair}
 use Rattle.pair.specs.Pairs.{pairs, plus, times, multiple}
 use Rattle.pair.proofs.Parts.{re-equal, im-equal}
-use Rattle.pair.proofs.Laws.{multiple-cancel}
-use Rattle.curve.specs.Curves.{InRange, powerForm}
+use Rattle.pair.proofs.Laws.{multiple-cancel, plus-minus}
+use Rattle.curve.specs.Curves.{InRange, differences, powerForm, legPolynomial}
 use Rattle.curve.proofs.SquaredLegs.{cubic-legs, quintic-legs}
-use Rattle.build.specs.Builds.{Source, cubic, quintic, given, Legs, NoThird, points, point-out-of-range}
+use Rattle.build.specs.Builds.{Source, cubic, quintic, pairsOf, Legs, NoThird, points, point-out-of-range}
 
 pub legs-once : (s : Source) (ds es : List Pair) → Legs s ds → Legs s es → ds ≡ es
 legs-once (cubic w0 w1) ds es h k = h ∙ sym k
@@ -27,13 +27,23 @@ legs-once (quintic w0 w1 w2) ds es (d, t, h) (e, u, k) =
 pub outside : (p0 : Pair) (s : Source) (ds : List Pair) → Legs s ds → (InRange (points p0 ds) → ⊥) → point-out-of-range p0 s .holds
 outside p0 s ds l n es k i = n (subst (λ xs. InRange (points p0 xs)) (legs-once s es ds k l) i)
 
-pub legs-squared : (s : Source) (ds : List Pair) → Legs s ds → Same pairs (powerForm ds) (square pairs (powerForm (given s)))
+legs-squared : (s : Source) (ds : List Pair) → Legs s ds → Same pairs (powerForm ds) (square pairs (powerForm (pairsOf s)))
 legs-squared (cubic w0 w1) ds h = rw h (cubic-legs w0 w1)
 legs-squared (quintic w0 w1 w2) ds (d, t, h) =
     let three = multiple (pos 3) in
     rw h
     (quintic-legs w0 w1 w2 (times w0 w0) (times w0 w1) d (times w1 w2) (times w2 w2) .1
     (λ i. three (times w0 w0) ∷ three (times w0 w1) ∷ t i ∷ three (times w1 w2) ∷ three (times w2 w2) ∷ []))
+
+points-legs : (p : Pair) (ds : List Pair) → differences (points p ds) ≡ ds
+unfolding points differences
+points-legs p [] = refl
+points-legs p (d ∷ []) = ap (λ x. x ∷ []) (plus-minus p d)
+points-legs p (d ∷ e ∷ ds) = λ i. plus-minus p d i ∷ points-legs (plus p d) (e ∷ ds) i
+
+pub points-squared : (p0 : Pair) (s : Source) (ds : List Pair) → Legs s ds → Same pairs (legPolynomial (points p0 ds)) (square pairs (powerForm (pairsOf s)))
+unfolding legPolynomial
+points-squared p0 s ds l = rw (points-legs p0 ds) (legs-squared s ds l)
 
 pub third-found : (d : Pair) {t : Pair} → multiple (pos 3) d ≡ t → NoThird t → ⊥
 third-found d e (inl n) = n (record { factor = d .re; is = re-equal e })

@@ -3,6 +3,5 @@ pub mod Sizes
 pub mod Triples
 pub mod Legs
 pub mod Answers
-pub mod Recognised
 pub mod Once
 pub mod Examples

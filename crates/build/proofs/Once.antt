@@ -1,24 +1,24 @@
 -- One answer of the builders.
 --   built-once     what is promised of an answer leaves one
-use mathlib.Core.Path.{_≡_, refl, sym, ap, _∙_}
-use native.Mathlib.Omega.{arith}
-use Rattle.refusal.proofs.Laws.{number-positive, number-once, first-once}
+use mathlib.Core.Path.{_≡_, sym, ap, _∙_}
+use Rattle.refusal.proofs.Answers.{refuse-once, first-or-once}
 use Rattle.pair.specs.declared.Pair.{Pair}
+use Rattle.curve.specs.declared.Curve.{Curve}
 use Rattle.curve.proofs.Points.{curve-once}
 use Rattle.build.specs.declared.BuildAnswer.{BuildAnswer}
 use Rattle.build.specs.declared.BuildAnswer.the-variants as answer
-use Rattle.build.specs.Builds.{Source, points, causes, numberOfBuilt, Built}
+use Rattle.build.specs.Builds.{Source, points, causes, answerOfBuilt, BuiltFrom, Built}
 use Rattle.build.proofs.Legs.{legs-once}
 
+answer-once : (r t : BuildAnswer) → answerOfBuilt r ≡ answerOfBuilt t → r ≡ t
+answer-once (answer.Built c) (answer.Built d) e = cc
+answer-once (answer.Built c) (answer.Refused t) e = cc
+answer-once (answer.Refused r) (answer.Built d) e = cc
+answer-once (answer.Refused r) (answer.Refused t) e = ap answer.Refused (refuse-once Curve e)
+
 module _ (p0 : Pair) (s : Source) where
-  once : (r t : BuildAnswer) → numberOfBuilt r ≡ numberOfBuilt t → Built p0 s r → Built p0 s t → r ≡ t
-  once (answer.Built c) (answer.Built d) e h k =
-      let (ds, l, f) = h .built refl in
-      let (es, m, g) = k .built refl in
-      ap answer.Built (curve-once c d (f ∙ ap (points p0) (legs-once s ds es l m) ∙ sym g))
-  once (answer.Built c) (answer.Refused r) e h k = absurd (omega (arith, number-positive r))
-  once (answer.Refused r) (answer.Built c) e h k = absurd (omega (arith, number-positive r))
-  once (answer.Refused r) (answer.Refused t) e h k = ap answer.Refused (number-once r t e)
+  curves-once : (c d : Curve) → BuiltFrom p0 s c → BuiltFrom p0 s d → c ≡ d
+  curves-once c d h k = curve-once c d (h .by-legs ∙ ap (points p0) (legs-once s (h .legs) (k .legs) (h .are-legs) (k .are-legs)) ∙ sym (k .by-legs))
 
   pub built-once : (r t : BuildAnswer) → Built p0 s r → Built p0 s t → r ≡ t
-  built-once r t h k = once r t (first-once (causes p0 s) (numberOfBuilt r) (numberOfBuilt t) (h .refusal) (k .refusal)) h k
+  built-once r t h k = answer-once r t (first-or-once (causes p0 s) (BuiltFrom p0 s) curves-once (answerOfBuilt r) (answerOfBuilt t) h k)

@@ -1,5 +1,5 @@
 -- Building from a pre-image in Bernstein form: what the two builders promise.
---   Source, given            what is built from: w0 and w1 for a cubic, w0, w1 and w2 for a quintic; the list of them
+--   Source, pairsOf          what is built from: w0 and w1 for a cubic, w0, w1 and w2 for a quintic; the list of them
 --   thrice                   2 w1² + w0 w2, three times the middle leg of a quintic
 --   Legs s ds                ds are the legs of s, each from its formula
 --   points p ds              the points that begin at p and go by the legs ds
@@ -8,19 +8,21 @@
 --   NoThird t, NoMiddle s    t has a part that 3 does not divide; s has no middle leg for that reason
 --   source-out-of-range, all-zero, no-third, point-out-of-range      the causes of refusal
 --   causes p0 s              their order
---   numberOfBuilt, Gives     the refusal's number, 0 for a curve; the points of the curve
+--   answerOfBuilt            the curve, or the refusal
+--   BuiltFrom p0 s c         c has the points that begin at p0 and go by the legs of s
 --   Built p0 s r             the promise
 use mathlib.Core.Path.{_≡_}
 use mathlib.Core.List.{List, [], _∷_}
 use mathlib.Core.Logic.{_⊎_}
-use Prim.Native.Nat.{ℕ}
 use lib.IntN.{pos}
 use Rattle.refusal.specs.declared.Refusal.the-variants.{Range, Still, Thirds}
-use Rattle.refusal.specs.Table.{Cause, First, numberOf}
+use Rattle.refusal.specs.Table.{Cause}
+use Rattle.refusal.specs.Answers.{Answer, refuse, given, FirstOr}
 use Rattle.whole.specs.Poly.{Same, Divides}
 use Rattle.whole.specs.Number.{wholes}
 use Rattle.pair.specs.declared.Pair.{Pair}
 use Rattle.pair.specs.Pairs.{pairs, plus, times, multiple, PartsWithin, AllWithin}
+use Rattle.curve.specs.declared.Curve.{Curve}
 use Rattle.curve.specs.Curves.{InRange, pointsOf}
 use Rattle.build.specs.declared.BuildAnswer.{BuildAnswer}
 use Rattle.build.specs.declared.BuildAnswer.the-variants as answer
@@ -29,9 +31,9 @@ pub data Source : Type 0 where
   cubic : Pair → Pair → Source
   quintic : Pair → Pair → Pair → Source
 
-abbrev pub given : Source → List Pair
-given (cubic w0 w1) = w0 ∷ w1 ∷ []
-given (quintic w0 w1 w2) = w0 ∷ w1 ∷ w2 ∷ []
+abbrev pub pairsOf : Source → List Pair
+pairsOf (cubic w0 w1) = w0 ∷ w1 ∷ []
+pairsOf (quintic w0 w1 w2) = w0 ∷ w1 ∷ w2 ∷ []
 
 abbrev pub thrice : Pair → Pair → Pair → Pair
 thrice w0 w1 w2 = plus (multiple (pos 2) (times w1 w1)) (times w0 w2)
@@ -50,13 +52,13 @@ abbrev pub Allowed : Pair → List Pair → Type 0
 Allowed p0 ws = PartsWithin 20000 p0 × AllWithin 200 ws
 
 abbrev pub source-out-of-range : Pair → Source → Cause
-source-out-of-range p0 s = record { refusal = Range; holds = Allowed p0 (given s) → ⊥ }
+source-out-of-range p0 s = record { refusal = Range; holds = Allowed p0 (pairsOf s) → ⊥ }
 
 abbrev pub AllZero : List Pair → Type 0
 AllZero ws = Same pairs ws []
 
 abbrev pub all-zero : Source → Cause
-all-zero s = record { refusal = Still; holds = AllZero (given s) }
+all-zero s = record { refusal = Still; holds = AllZero (pairsOf s) }
 
 abbrev pub NoThird : Pair → Type 0
 NoThird t = (Divides wholes (pos 3) (t .re) → ⊥) ⊎ (Divides wholes (pos 3) (t .im) → ⊥)
@@ -77,14 +79,14 @@ abbrev pub causes : Pair → Source → List Cause
 causes p0 s = source-out-of-range p0 s ∷ all-zero s ∷ no-third s ∷ point-out-of-range p0 s ∷ []
 
 -- ---- the promise
-abbrev pub numberOfBuilt : BuildAnswer → ℕ
-numberOfBuilt (answer.Built c) = 0
-numberOfBuilt (answer.Refused r) = numberOf r
+abbrev pub answerOfBuilt : BuildAnswer → Answer Curve
+answerOfBuilt (answer.Built c) = given c
+answerOfBuilt (answer.Refused r) = refuse r 0
 
-abbrev pub Gives : List Pair → BuildAnswer → Type 0
-Gives ps (answer.Built c) = pointsOf c ≡ ps
-Gives ps (answer.Refused r) = ⊥
+pub record BuiltFrom (p0 : Pair) (s : Source) (c : Curve) : Type 0 where
+  pub legs : List Pair
+  pub are-legs : Legs s legs
+  pub by-legs : pointsOf c ≡ points p0 legs
 
-pub record Built (p0 : Pair) (s : Source) (r : BuildAnswer) : Type 0 where
-  pub refusal : First (causes p0 s) (numberOfBuilt r)
-  pub built : numberOfBuilt r ≡ 0 → (ds : List Pair) × Legs s ds × Gives (points p0 ds) r
+abbrev pub Built : Pair → Source → BuildAnswer → Type 0
+Built p0 s r = FirstOr (causes p0 s) (BuiltFrom p0 s) (answerOfBuilt r)

@@ -6,14 +6,15 @@ use mathlib.Core.Path.{_≡_}
 use mathlib.Core.List.{List, [], _∷_}
 use Prim.Native.Nat.{ℕ, _+_}
 use lib.IntN.{pos}
-use Rattle.refusal.specs.Table.{First}
+use Rattle.refusal.specs.Answers.{FirstOr}
 use Rattle.pair.specs.declared.Pair.{Pair}
 use Rattle.pair.specs.Pairs.{plus, multiple, PartsWithin}
 use Rattle.divisor.specs.declared.PairQuotient.{PairQuotient}
 use Rattle.divisor.specs.declared.PairQuotient.the-variants.{Whole, None}
+use Rattle.curve.specs.Curves.{pointsOf}
 use Rattle.curve.specs.Promise.{out-of-range}
 use Rattle.build.specs.declared.BuildAnswer.{BuildAnswer}
-use Rattle.build.specs.Builds.{NoThird, numberOfBuilt, Gives}
+use Rattle.build.specs.Builds.{NoThird, answerOfBuilt}
 
 abbrev pub IsThird : Pair → PairQuotient → Type 0
 IsThird t (Whole d) = multiple (pos 3) d ≡ t
@@ -23,6 +24,5 @@ pub record Next (p d r : Pair) : Type 0 where
   pub is : r ≡ plus p d
   pub near : (B : ℕ) → PartsWithin B p → PartsWithin (B + 80000) r
 
-pub record Ranged (ps : List Pair) (r : BuildAnswer) : Type 0 where
-  pub refusal : First (out-of-range ps ∷ []) (numberOfBuilt r)
-  pub built : numberOfBuilt r ≡ 0 → Gives ps r
+abbrev pub Ranged : List Pair → BuildAnswer → Type 0
+Ranged ps r = FirstOr (out-of-range ps ∷ []) (λ c. pointsOf c ≡ ps) (answerOfBuilt r)

@@ -1,9 +1,10 @@
 -- From what is known of a curve or of a join to the promises that a row of the table names.
 --   spread                 the sizes of all coordinates, added up: where that is small, every coordinate is in range
+--   Finds                  that `preimage_of` finds a pre-image
 --   no-row, ph-row, pre-row     a row of each verdict
 --   measured, long, turned, offset      the claims on a curve with a pre-image
 --   joins-row              a row of joins
-use mathlib.Core.Path.{_≡_, refl, sym, ap, subst, _∙_}
+use mathlib.Core.Path.{_≡_, refl, sym, ap, _∙_}
 use mathlib.Core.Bool.{false}
 use mathlib.Core.List.{List, [], _∷_, _++_}
 use mathlib.Core.Logic.{_≢_, inl, inr, ⊎-elim}
@@ -12,33 +13,36 @@ use native.Mathlib.Omega.{arith}
 use lib.IntN.{ℤ, pos, natAbs, _*ℤ_, zero-*ℤ}
 use lib.ListN.{length, replicate, length-append, length-replicate}
 use Rattle.refusal.specs.Table.{Cause, First}
+use Rattle.refusal.specs.Answers.{given}
 use Rattle.refusal.proofs.Laws.{first-after}
 use Rattle.whole.specs.Poly.{scaled}
-use Rattle.whole.specs.Area.{Fills}
 use Rattle.whole.specs.Number.{wholes, Within}
 use Rattle.whole.proofs.Linear.{linear}
 use Rattle.whole.proofs.Squares.{Between}
+use Rattle.area.specs.Area.{Fills}
 use Rattle.poly.specs.Terms.{value}
 use Rattle.pair.specs.declared.Pair.{Pair}
 use Rattle.pair.specs.Pairs.{pairs, times, norm}
 use Rattle.pair.proofs.Parts.{wider}
 use Rattle.root.specs.Roots.{quartic}
 use Rattle.curve.specs.declared.Curve.{Curve}
-use Rattle.curve.specs.declared.Square.{Square}
-use Rattle.curve.specs.declared.Preimage.{Preimage}
-use Rattle.curve.specs.declared.Verdict.{Verdict}
-use Rattle.curve.specs.declared.Verdict.the-variants as verdict
-use Rattle.curve.specs.declared.PreimageAnswer.the-variants.{Found}
 use Rattle.curve.specs.Curves.{InRange, pointsOf, legPolynomial, squaredLength}
-use Rattle.curve.specs.Verdicts.{Still, SquareOf, PreimageOf, Holds}
-use Rattle.curve.specs.Promise.{out-of-range, still, not-ph, no-preimage, Recognised, Preimaged}
-use Rattle.curve.proofs.Known.{holds-number}
-use Rattle.curve.proofs.Lengths.{squaredLength-zero, not-squared-moves}
-use Rattle.curve.proofs.Refusals.{recognised-preimage}
+use Rattle.curve.specs.Promise.{out-of-range}
+use Rattle.curve.proofs.Lengths.{squaredLength-zero}
+use Rattle.verdict.specs.declared.Square.{Square}
+use Rattle.verdict.specs.declared.Preimage.{Preimage}
+use Rattle.verdict.specs.declared.Verdict.{Verdict}
+use Rattle.verdict.specs.declared.Verdict.the-variants as verdict
+use Rattle.verdict.specs.declared.PreimageAnswer.the-variants.{Found}
+use Rattle.verdict.specs.Verdicts.{Still, SquareOf, PreimageOf, Holds}
+use Rattle.verdict.specs.Promise.{still, not-ph, no-preimage, Recognised, Preimaged}
+use Rattle.verdict.proofs.Multiples.{not-squared-moves}
+use Rattle.verdict.proofs.Refusals.{recognised-by, recognised-preimage}
 use Rattle.measure.specs.declared.Turning.{Turning}
-use Rattle.measure.specs.declared.LengthAnswer.the-variants.{Length}
-use Rattle.measure.specs.declared.InflectionAnswer.the-variants.{Inflections}
-use Rattle.measure.specs.Lengths.{lengthA, lengthB}
+use Rattle.measure.specs.declared.lengths.Length.{Length}
+use Rattle.measure.specs.declared.LengthAnswer.the-variants as L
+use Rattle.measure.specs.declared.InflectionAnswer.the-variants as I
+use Rattle.measure.specs.Lengths.{lengthOf}
 use Rattle.measure.specs.Turns.{turningOf, Straight, CountIs}
 use Rattle.measure.specs.Promises.{Measured, Inflected}
 use Rattle.offset.specs.declared.OffsetAnswer.the-variants.{Written}
@@ -57,7 +61,7 @@ in-range [] h = tt
 in-range (p ∷ ps) h = (record { re = record { size = omega arith }; im = record { size = omega arith } }, in-range ps (omega arith))
 
 recognised : (ps : List Pair) (v : Verdict) → spread ps ≤ 20000 → Holds (legPolynomial ps) v → Recognised ps v
-recognised ps v h k = record { refusal = inr (λ out. out (in-range ps h), holds-number (legPolynomial ps) v k); verdict = λ e. k }
+recognised ps v h k = recognised-by ps (in-range ps h) v k
 
 -- a curve whose N is c q² is not still: 0 would divide c
 square-moves : (D : List Pair) (s : Square) → SquareOf D s → Still D → ⊥
@@ -67,6 +71,10 @@ square-moves D s h z =
 
 abbrev D : Curve → List Pair
 D curve = legPolynomial (pointsOf curve)
+
+-- a record, so that it says by itself of which curve
+pub record Finds (curve : Curve) (p : Preimage) : Type 0 where
+  pub found : Preimaged (pointsOf curve) (Found p)
 
 module _ {curve : Curve} {claims : List Claim} (small : spread (pointsOf curve) ≤ 20000) where
   pub no-row : (x y : ℤ) → Between (value wholes x (squaredLength (D curve)) *ℤ value wholes y (squaredLength (D curve)))
@@ -82,10 +90,10 @@ module _ {curve : Curve} {claims : List Claim} (small : spread (pointsOf curve) 
     said = f;
   }
 
-  pub pre-row : {p : Preimage} → PreimageOf (D curve) p → (Preimaged (pointsOf curve) (Found p) → SaysAll curve claims) → CurveHolds curve (verdict.Pre p) claims
+  pub pre-row : {p : Preimage} → PreimageOf (D curve) p → (Finds curve p → SaysAll curve claims) → CurveHolds curve (verdict.Pre p) claims
   pre-row {p} h f =
       let r = recognised (pointsOf curve) (verdict.Pre p) small (square-moves (D curve) (p .square) (h .square-of), h) in
-      record { recognised = r; said = f (recognised-preimage (pointsOf curve) (verdict.Pre p) r) }
+      record { recognised = r; said = f (record { found = recognised-preimage (pointsOf curve) (verdict.Pre p) r }) }
 
 -- ---- an area made of an answer and zeros
 filled-length : (room : ℕ) (vs : List ℤ) → length vs ≤ room → length (filled room vs) ≡ room
@@ -99,48 +107,44 @@ filled-fills room vs h = ap (λ n. vs ++ replicate (n - length vs) (pos 0)) (sym
 abbrev no-way : List Pair → List Cause
 no-way ps = still ps ∷ not-ph ps ∷ no-preimage ps ∷ []
 
-module _ {curve : Curve} {p : Preimage} (i : Preimaged (pointsOf curve) (Found p)) where
-  pub measured : {c a b : ℤ} → c ∷ a ∷ b ∷ [] ≡ p .square .c ∷ lengthA curve (p .square .q) ∷ lengthB curve ∷ [] → Measured curve (Length c a b)
-  measured e = record { refusal = i .refusal; values = λ z. (p, i .preimage refl, e) }
+module _ {curve : Curve} {p : Preimage} (i : Finds curve p) where
+  pub measured : {l : Length} → l ≡ lengthOf curve (p .square) → Measured curve (L.Found l)
+  measured e = (i .found .0, record { preimage = p; is-preimage = i .found .1; has = e })
 
-  pub long : {whole : ℕ} → p .square .c *ℤ (lengthA curve (p .square .q) *ℤ lengthA curve (p .square .q)) ≡ pos (whole * whole) *ℤ (lengthB curve *ℤ lengthB curve) → Long curve whole
-  long e = record { c = p .square .c; a = lengthA curve (p .square .q); b = lengthB curve; measured = measured refl; is = e }
+  pub long : {whole : ℕ} → let l = lengthOf curve (p .square) in l .c *ℤ (l .a *ℤ l .a) ≡ pos (whole * whole) *ℤ (l .b *ℤ l .b) → Long curve whole
+  long e = record { l = lengthOf curve (p .square); measured = measured refl; is = e }
 
-  pub turned : {x : Turning} {k : ℕ} → x ≡ turningOf (p .w) → CountIs x k → (Straight x → ⊥) → Inflected curve (Inflections x k false)
-  turned e n s = record { refusal = i .refusal; values = λ z. (p, i .preimage refl, (e, n, s)) }
+  pub turned : {x : Turning} {k : ℕ} → x ≡ turningOf (p .w) → CountIs x k → (Straight x → ⊥) → Inflected curve (I.Found (record { turning = x; count = k; straight = false }))
+  turned e n s = (i .found .0, record { preimage = p; is-preimage = i .found .1; has = record { turning = e; count = n; straight = s } })
 
   pub offset : {h : ℤ} {vs : List ℤ} (m : ℕ) → p .square .c ≡ pos (m * m) → Within 20000 h
       → offsetNumbers curve (offsetCurve (pointsOf curve) (scaled wholes (pos m) (quartic (p .square .q))) h) ≡ vs → length vs ≡ needs curve
-      → (area : List ℤ) → needs curve ≤ length area → OffsetBy curve h area (filled (length area) vs) Written
+      → (area : List ℤ) → needs curve ≤ length area → OffsetBy curve h area (filled (length area) vs) (Written (needs curve))
   offset {h} {vs} m root w e l area room = record {
-    refusal = none (i .refusal);
+    answer = given vs;
+    first-or = (none (i .found .0), record { preimage = p; is-preimage = i .found .1; has = record { m = m; root = root; is = sym e } });
+    counts = ap given (sym l);
     same-room = filled-length (length area) vs (omega arith);
-    cleared = λ n. absurd (n refl);
-    written = λ z. record {
-      preimage = p;
-      is-preimage = i .preimage refl;
-      m = m;
-      root = root;
-      fills = subst (λ ns. Fills ns (filled (length area) vs)) (sym e) (filled-fills (length area) vs (omega arith));
-    };
+    fills = filled-fills (length area) vs (omega arith);
   }
     where
       none : First (out-of-range (pointsOf curve) ∷ no-way (pointsOf curve)) 0
           → First (beyond curve h ∷ no-way (pointsOf curve) ++ no-root (pointsOf curve) ∷ no-room curve (length area) ∷ []) 0
       none (inl out) = absurd (omega (arith, out .1))
       none (inr (inside, f)) =
-          inr (λ out. inside (λ r. out (r, w)), first-after (no-way (pointsOf curve)) (no-root (pointsOf curve) ∷ no-room curve (length area) ∷ []) 0 f (inr (λ n. n p m (i .preimage refl) root, inr (λ less. omega arith, refl))))
+          inr (λ out. inside (λ r. out (r, w)), first-after (no-way (pointsOf curve)) (no-root (pointsOf curve) ∷ no-room curve (length area) ∷ []) 0 f (inr (λ n. n p m (i .found .1) root, inr (λ less. omega arith, refl))))
 
 -- ---- joins
 pub joins-row : {a z T : Pair} {ws : List join.Triple} → spread (a ∷ z ∷ T ∷ []) ≤ 20000 → 0 < spread (a ∷ []) → 0 < spread (z ∷ []) → length (join.numbers ws) ≤ 24
     → join.AllJoins a z T ws → JoinsHold a z T ws
 joins-row {a} {z} {T} {ws} small first last few h = record {
   all = h;
-  answer = λ room n. record {
-    refusal = inr (λ out. out range, inr (⊎-elim (some a first) (some z last), inr (λ less. omega arith, refl)));
-    same-room = filled-length room (join.numbers ws) (omega arith);
-    cleared = λ f. absurd (f refl);
-    listed = λ e. record { triples = ws; all = h; counted = refl; filled = filled-fills room (join.numbers ws) (omega arith) };
+  answer = λ area n. record {
+    answer = given ws;
+    first-or = (inr (λ out. out range, inr (⊎-elim (some a first) (some z last), inr (λ less. omega arith, refl))), h);
+    counts = refl;
+    same-room = filled-length (length area) (join.numbers ws) (omega arith);
+    fills = filled-fills (length area) (join.numbers ws) (omega arith);
   };
 }
   where

@@ -22,11 +22,12 @@ use lib.IntN.{ℤ, pos, _*ℤ_}
 use lib.ListN.{length, replicate}
 use Rattle.pair.specs.declared.Pair.{Pair}
 use Rattle.curve.specs.declared.Curve.{Curve}
-use Rattle.curve.specs.declared.Verdict.{Verdict}
 use Rattle.curve.specs.Curves.{pointsOf, differences, legPolynomial, squaredLength}
-use Rattle.curve.specs.Promise.{Recognised}
-use Rattle.measure.specs.declared.LengthAnswer.the-variants.{Length}
-use Rattle.measure.specs.declared.InflectionAnswer.the-variants.{Inflections}
+use Rattle.verdict.specs.declared.Verdict.{Verdict}
+use Rattle.verdict.specs.Promise.{Recognised}
+use Rattle.measure.specs.declared.lengths.Length.{Length}
+use Rattle.measure.specs.declared.LengthAnswer.the-variants as L
+use Rattle.measure.specs.declared.InflectionAnswer.the-variants as I
 use Rattle.measure.specs.Promises.{Measured, Inflected}
 use Rattle.offset.specs.declared.OffsetAnswer.the-variants.{Written}
 use Rattle.offset.specs.Offsets.{numbersOf, degreeOf, needs, OffsetBy}
@@ -49,20 +50,18 @@ abbrev pub filled : ℕ → List ℤ → List ℤ
 filled room answer = answer ++ replicate (room - length answer) (pos 0)
 
 pub record Long (curve : Curve) (whole : ℕ) : Type 0 where
-  pub c : ℤ
-  pub a : ℤ
-  pub b : ℤ
-  pub measured : Measured curve (Length c a b)
-  pub is : c *ℤ (a *ℤ a) ≡ pos (whole * whole) *ℤ (b *ℤ b)
+  pub l : Length
+  pub measured : Measured curve (L.Found l)
+  pub is : l .c *ℤ (l .a *ℤ l .a) ≡ pos (whole * whole) *ℤ (l .b *ℤ l .b)
 
 abbrev pub Says : Curve → Claim → Type 0
 Says curve (legs-are ds) = differences (pointsOf curve) ≡ ds
 Says curve (N-is n) = squaredLength (legPolynomial (pointsOf curve)) ≡ n
-Says curve (length-is c a b) = Measured curve (Length c a b)
+Says curve (length-is c a b) = Measured curve (L.Found (record { c = c; a = a; b = b }))
 Says curve (long whole) = Long curve whole
-Says curve (turning-is t0 t1 t2 count) = Inflected curve (Inflections (record { t0 = t0; t1 = t1; t2 = t2 }) count false)
+Says curve (turning-is t0 t1 t2 count) = Inflected curve (I.Found (record { turning = record { t0 = t0; t1 = t1; t2 = t2 }; count = count; straight = false }))
 Says curve (offset-is h w x y) =
-    (area : List ℤ) → needs curve ≤ length area → OffsetBy curve h area (filled (length area) (numbersOf (suc (degreeOf curve)) w x y)) Written
+    (area : List ℤ) → needs curve ≤ length area → OffsetBy curve h area (filled (length area) (numbersOf (suc (degreeOf curve)) w x y)) (Written (needs curve))
 
 abbrev pub SaysAll : Curve → List Claim → Type 0
 SaysAll curve [] = Unit {0}
@@ -74,7 +73,7 @@ pub record CurveHolds (curve : Curve) (v : Verdict) (claims : List Claim) : Type
 
 pub record JoinsHold (a z T : Pair) (ws : List Triple) : Type 0 where
   pub all : AllJoins a z T ws
-  pub answer : (room : ℕ) → 24 ≤ room → Joined a z T room (filled room (numbers ws)) (Listed (length ws))
+  pub answer : (area : List ℤ) → 24 ≤ length area → Joined a z T area (filled (length area) (numbers ws)) (Listed (length ws))
 
 abbrev pub Holds : Row → Type 0
 Holds (curve-is curve v claims) = CurveHolds curve v claims

@@ -17,8 +17,8 @@ use Rattle.root.specs.declared.Quartic.{Quartic}
 use Rattle.root.specs.declared.pairs.Quadratic.{Quadratic}
 use Rattle.curve.specs.declared.Curve.{Curve}
 use Rattle.curve.specs.declared.Curve.the-variants.{Cubic, Quintic}
-use Rattle.curve.specs.declared.Verdict.{Verdict}
-use Rattle.curve.specs.declared.Verdict.the-variants.{No, Ph, Pre}
+use Rattle.verdict.specs.declared.Verdict.{Verdict}
+use Rattle.verdict.specs.declared.Verdict.the-variants.{No, Ph, Pre}
 use Rattle.join.specs.Listing.{Triple}
 use Rattle.cases.specs.Rows.{Row, curve-is, joins-are, legs-are, N-is, length-is, long, turning-is, offset-is}
 

@@ -10,40 +10,31 @@
 --   squaredLength-top             the highest power of N is twice that of D,
 --   squaredLength-lead-positive   and its coefficient is positive
 --   squaredLength-zero            N is 0 exactly where D is
---   not-squared-moves             so where N is no c q², D is not 0
---   generated-some                D = κ w², and not 0: κ is not 0
---   generated-squared             D = κ w² gives N = |κ|² (|w|²)²
---   squared-above                 N = c q²: q has no power above those of D
 --   pairForm                      sⁿ D(v / s),
---   squaredLength-form            of which s²ⁿ N(v / s) is the norm;
---   squared-form                  where N = c q², that is c (sⁿ q(v / s))²
+--   squaredLength-form            of which s²ⁿ N(v / s) is the norm
 use mathlib.Core.Path.{_≡_, refl, sym, ap, ap₂, _∙_, fun-ext}
 use mathlib.Core.List.{List, [], _∷_}
-use mathlib.Core.Logic.{_≢_, _↔_, ⊎-elim}
+use mathlib.Core.Logic.{_↔_, ⊎-elim}
 use Prim.Native.Nat.{ℕ, zero, suc, _+_}
 use native.Mathlib.Omega.{arith}
-use lib.IntN.{ℤ, pos, _+ℤ_, _-ℤ_, _*ℤ_}
+use lib.IntN.{ℤ, _+ℤ_, _-ℤ_, _*ℤ_}
 use lib.ListN.{List·getD-map}
-use lib.Signed.{_<ℤ_}
 use Rattle.whole.specs.Poly.{Coefficients, at, Same, sum, scaled, product, square}
 use Rattle.whole.specs.Number.{wholes}
 use Rattle.whole.proofs.Ring.{Ring}
 use Rattle.whole.proofs.Solver.{atoms, read, ring}
-use Rattle.whole.proofs.Linear.{linear}
 use Rattle.whole.proofs.Wholes.{wholes-ring, readℤ, atomsℤ, ringℤ}
 use Rattle.poly.specs.Terms.{Above, Top}
 use Rattle.poly.proofs.Series.{Series, tail, conv, series, series-ring}
-use Rattle.poly.proofs.Lists.{at-sum, at-scaled, at-product, of-product, product-same, scaled-same, none-scaled, scaled-is-product}
-use Rattle.poly.proofs.Top.{length-above, conv-above, conv-lead, top-some, find-top, root-above}
-use Rattle.poly.proofs.Forms.{form, form-plus, form-times, form-product}
-use Rattle.poly.proofs.Wholes.{whole-zero?, wholes-domain}
+use Rattle.poly.proofs.Lists.{at-sum, at-product, of-product, product-same, scaled-is-product}
+use Rattle.poly.proofs.Top.{length-above, conv-above, conv-lead, top-some, find-top}
+use Rattle.poly.proofs.Forms.{form, form-plus, form-product}
 use Rattle.pair.specs.declared.Pair.{Pair}
 use Rattle.pair.specs.Pairs.{pair, pairs, norm}
 use Rattle.pair.proofs.Laws.{pairs-ring, norm-zero, norm-some}
 use Rattle.divisor.proofs.Divisors.{pair-zero?}
 use Rattle.root.specs.Roots.{LeadPositive}
 use Rattle.curve.specs.Curves.{reals, imaginaries, squaredLength}
-use Rattle.curve.specs.Verdicts.{Squared, NotSquared, Generated, Still}
 
 -- ---- N as a series, from D as one
 abbrev pub re-of : Series Pair → Series ℤ
@@ -160,10 +151,6 @@ unfolding squaredLength sum product
 squaredLength-zero D =
     (λ z. squaredLength-same D [] z, λ z. ⊎-elim (λ e. e) (λ t. absurd (top-some (squaredLength-top (t .1)) z)) (find-top pair-zero? D))
 
-pub not-squared-moves : (D : List Pair) → NotSquared D → Still D → ⊥
-unfolding scaled product
-not-squared-moves D h z = h (pos 1) [] (omega linear) (squaredLength-zero D .0 z)
-
 -- ---- multiples
 squaredLength-constant : (κ : Pair) → Same wholes (squaredLength (κ ∷ [])) (norm κ ∷ [])
 squaredLength-constant κ zero = squaredLength-lead (κ ∷ []) zero (length-above pairs (κ ∷ []) zero (omega arith))
@@ -176,17 +163,7 @@ squaredLength-scaled κ D k =
     ∙ product-same wholes-ring (squaredLength (κ ∷ [])) (norm κ ∷ []) (squaredLength D) (squaredLength D) (squaredLength-constant κ) (λ i. refl) k
     ∙ sym (scaled-is-product wholes-ring (norm κ) (squaredLength D) k)
 
--- ---- D = κ w²
-pub generated-some : (D : List Pair) (κ : Pair) (w : List Pair) → Generated D κ w → (Still D → ⊥) → κ ≢ pairs .none
-generated-some D κ w h n e = n (λ k. h k ∙ none-scaled pairs-ring κ (square pairs w) e k)
-
-pub generated-squared : (D : List Pair) (κ : Pair) (w : List Pair) → Generated D κ w → Squared D (norm κ) (squaredLength w)
-generated-squared D κ w h k =
-    squaredLength-same D (scaled pairs κ (square pairs w)) h k
-    ∙ squaredLength-scaled κ (square pairs w) k
-    ∙ scaled-same wholes-ring (norm κ) (squaredLength (square pairs w)) (square wholes (squaredLength w)) (squaredLength-product w w) k
-
--- ---- values, and N = c q²
+-- ---- values
 abbrev pub pairForm : ℤ → ℤ → ℕ → List Pair → Pair
 pairForm s v n D = pair (form wholes s v n (re-of (at pairs D))) (form wholes s v n (im-of (at pairs D)))
 
@@ -197,14 +174,3 @@ squaredLength-form s v D n u =
     ∙ ap₂ _+ℤ_
     (form-product wholes-ring s v n n (re-of (at pairs D)) (re-of (at pairs D)) (re-above u) (re-above u))
     (form-product wholes-ring s v n n (im-of (at pairs D)) (im-of (at pairs D)) (im-above u) (im-above u))
-
-module _ (D : List Pair) (n : ℕ) (c : ℤ) (q : List ℤ) (u : Above pairs (at pairs D) n) (p : pos 0 <ℤ c) (h : Squared D c q) where
-  pub squared-above : Above wholes (at wholes q) n
-  squared-above = root-above wholes-ring wholes-domain whole-zero? (squaredLength D) q c n (λ z. omega linear) h (squaredLength-above D n u)
-
-  pub squared-form : (s v : ℤ) → norm (pairForm s v n D) ≡ c *ℤ (form wholes s v n (at wholes q) *ℤ form wholes s v n (at wholes q))
-  squared-form s v =
-      sym (squaredLength-form s v D n u)
-      ∙ ap (form wholes s v (n + n)) (fun-ext (λ k. h k ∙ at-scaled wholes-ring c (square wholes q) k ∙ ap (λ x. c *ℤ x) (at-product wholes-ring q q k)))
-      ∙ form-times wholes-ring s v (n + n) c _
-      ∙ ap (λ x. c *ℤ x) (form-product wholes-ring s v n n (at wholes q) (at wholes q) squared-above squared-above)

@@ -1,28 +1,11 @@
--- The theory of curves and verdicts, up to what `recognise` cites.
-pub mod Differences
-pub mod Lengths
+-- The theory of curves: their legs, D, N and their sizes.
 pub mod LegPolynomial
-pub mod Quarters
-pub mod Sizes
-pub mod Derivative
+pub mod Differences
 pub mod PowerForms
 pub mod SquaredLegs
-pub mod EndLegs
-pub mod Lengthening
-pub mod Conjugates
-pub mod Coprime
-pub mod Signs
-pub mod Squares
-pub mod Generators
-pub mod Norms
-pub mod Carried
-pub mod Once
-pub mod Moved
 pub mod Points
-pub mod Normal
-pub mod Cover
-pub mod Refusals
-pub mod FoundSizes
-pub mod Turned
-pub mod Known
+pub mod Moved
+pub mod Lengths
+pub mod Sizes
+pub mod Derivative
 pub mod Examples

@@ -1,18 +1,13 @@
--- A verdict does not change when the curve is moved.
+-- D does not change when the curve is moved.
 --   legPolynomial-moved     the points that are each shifted by one pair have the same D
---   recognised-moved        so a verdict carries over, where the moved points are in range
 use mathlib.Core.Path.{_≡_, refl, ap, ap₂}
 use mathlib.Core.List.{List, [], _∷_, map}
-use mathlib.Core.Logic.{inr}
 use lib.IntN.{ℤ, _+ℤ_, _-ℤ_}
 use Rattle.whole.proofs.Wholes.{readℤ, atomsℤ, ringℤ}
 use Rattle.pair.specs.declared.Pair.{Pair}
 use Rattle.pair.specs.Pairs.{plus, minus}
 use Rattle.pair.proofs.Parts.{pair-equal}
-use Rattle.curve.specs.declared.Verdict.{Verdict}
-use Rattle.curve.specs.Curves.{InRange, differences, powerForm, legPolynomial}
-use Rattle.curve.specs.Verdicts.{numberOfVerdict}
-use Rattle.curve.specs.Promise.{Recognised}
+use Rattle.curve.specs.Curves.{differences, powerForm, legPolynomial}
 
 minus-moved : (a p q : Pair) → minus (plus a q) (plus a p) ≡ minus q p
 minus-moved a p q = pair-equal (part (a .re) (p .re) (q .re)) (part (a .im) (p .im) (q .im))
@@ -29,7 +24,3 @@ differences-moved a (p ∷ q ∷ ps) = ap₂ _∷_ (minus-moved a p q) (differen
 pub legPolynomial-moved : (a : Pair) (ps : List Pair) → legPolynomial (map (plus a) ps) ≡ legPolynomial ps
 unfolding legPolynomial
 legPolynomial-moved a ps = ap powerForm (differences-moved a ps)
-
-pub recognised-moved : (a : Pair) (ps : List Pair) (v : Verdict) → InRange (map (plus a) ps) → numberOfVerdict v ≡ 0 → Recognised ps v
-    → Recognised (map (plus a) ps) v
-recognised-moved a ps v r z h = record { refusal = inr (λ n. n r, z); verdict = λ e. rw (legPolynomial-moved a ps) (h .verdict e) }

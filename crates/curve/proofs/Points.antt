@@ -1,5 +1,6 @@
 -- The points of a curve, and still curves of any number of points.
 --   curve-once       a curve is known by its points
+--   reals-within, imaginaries-within     in range, the parts of the points are coordinates
 --   still-legs       D = 0 exactly when every leg is 0,
 --   still-points     exactly when all points are equal
 use mathlib.Core.Path.{_≡_, refl, sym, ap, _∙_}
@@ -15,8 +16,8 @@ use Rattle.pair.specs.Pairs.{pairs, minus}
 use Rattle.pair.proofs.Laws.{pairs-ring}
 use Rattle.curve.specs.declared.Curve.{Curve}
 use Rattle.curve.specs.declared.Curve.the-variants.{Cubic, Quintic}
-use Rattle.curve.specs.Curves.{pointsOf, differences, legPolynomial}
-use Rattle.curve.specs.Verdicts.{Still}
+use Rattle.curve.specs.Curves.{pointsOf, InRange, differences, legPolynomial, reals, imaginaries}
+use Rattle.curve.specs.Steps.{Coordinates}
 use Rattle.curve.proofs.PowerForms.{powerForm-zero}
 
 pub curve-once : (c d : Curve) → pointsOf c ≡ pointsOf d → c ≡ d
@@ -26,6 +27,15 @@ curve-once (Quintic c) (Cubic d) e = absurd (omega (arith, ap length e))
 curve-once (Quintic c) (Quintic d) e =
     λ i. Quintic (record { p0 = at pairs (e i) 0; p1 = at pairs (e i) 1; p2 = at pairs (e i) 2; p3 = at pairs (e i) 3; p4 = at pairs (e i) 4; p5 = at pairs (e i) 5 })
 
+-- ---- the parts
+pub reals-within : (ps : List Pair) → InRange ps → Coordinates (reals ps)
+reals-within [] h = tt
+reals-within (p ∷ ps) h = (h .0 .re, reals-within ps (h .1))
+
+pub imaginaries-within : (ps : List Pair) → InRange ps → Coordinates (imaginaries ps)
+imaginaries-within [] h = tt
+imaginaries-within (p ∷ ps) h = (h .0 .im, imaginaries-within ps (h .1))
+
 -- ---- the legs
 minus-zero : (p q : Pair) → minus q p ≡ pairs .none → q ≡ p
 minus-zero p q e = zero-difference pairs-ring q p e
@@ -33,7 +43,7 @@ minus-zero p q e = zero-difference pairs-ring q p e
 minus-self : (p q : Pair) → q ≡ p → minus q p ≡ pairs .none
 minus-self p q e = ap (λ t. minus t p) e ∙ pairs-ring .plus-negative p
 
-pub still-legs : (ps : List Pair) → Still (legPolynomial ps) ↔ Same pairs (differences ps) []
+pub still-legs : (ps : List Pair) → Same pairs (legPolynomial ps) [] ↔ Same pairs (differences ps) []
 unfolding legPolynomial
 still-legs ps = powerForm-zero (differences ps)
 
@@ -50,7 +60,7 @@ equal-differences p [] h k = refl
 equal-differences p (q ∷ ps) h zero = minus-self p q (h 1 (omega arith))
 equal-differences p (q ∷ ps) h (suc k) = equal-differences q ps (λ j i. h (suc j) (omega arith) ∙ sym (h 1 (omega arith))) k
 
-pub still-points : (ps : List Pair) → Still (legPolynomial ps) ↔ ((j k : ℕ) → j < length ps → k < length ps → at pairs ps j ≡ at pairs ps k)
+pub still-points : (ps : List Pair) → Same pairs (legPolynomial ps) [] ↔ ((j k : ℕ) → j < length ps → k < length ps → at pairs ps j ≡ at pairs ps k)
 unfolding differences
 still-points [] = (λ e j k h i. absurd (omega arith), λ h. still-legs [] .1 (λ k. refl))
 still-points (p ∷ ps) = (

@@ -1,7 +1,7 @@
 -- A curve's points, its leg polynomial D and N = |D|², for any number of points.
 --   pointsOf, InRange          the points; every coordinate is from −20,000 to 20,000
 --   differences                the legs of a list of points
---   powerForm                  Bernstein coefficients to power coefficients
+--   powers, powerForm          Bernstein coefficients to power coefficients
 --   legPolynomial              D, for which r' = n D
 --   reals, imaginaries         the parts of a polynomial
 --   squaredLength              N

@@ -1,5 +1,4 @@
--- The definitions that the contracts cite: curves, verdicts, the promise; `Steps` is for the parts of the program only.
+-- The definitions that the contracts cite: curves, the cause that every call on a curve shares; `Steps` is for the parts of the program only.
 pub mod Curves
-pub mod Verdicts
 pub mod Promise
 pub mod Steps

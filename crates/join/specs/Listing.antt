@@ -7,20 +7,20 @@
 --   AllJoins a z T ws            ws is the list of joins
 --   numbers                      six numbers a triple, w0 first, real before imaginary
 --   InRange, DeadEnd, causes     the causes of refusal, in the call's order
---   numberOfJoins, countOfJoins  an answer in the table's terms
---   Answered                     the list's length, and its numbers in the area
+--   answerOfJoins                how many triples were written, or the refusal
 --   Joined                       the promise of `joins`
 use mathlib.Core.Path.{_≡_}
 use mathlib.Core.List.{List, [], _∷_}
-use mathlib.Core.Logic.{_≢_, _⊎_}
+use mathlib.Core.Logic.{_⊎_}
 use Prim.Native.Nat.{ℕ, _<_}
 use lib.IntN.{ℤ, pos}
 use lib.ListN.{length}
 use lib.Signed.{_<ℤ_}
 use Rattle.refusal.specs.declared.Refusal.the-variants as R
-use Rattle.refusal.specs.Table.{Cause, First, numberOf}
-use Rattle.whole.specs.Area.{Fills}
+use Rattle.refusal.specs.Table.{Cause}
+use Rattle.refusal.specs.Answers.{Answer, refuse, given}
 use Rattle.whole.specs.Number.{FirstPositive}
+use Rattle.area.specs.Promise.{FirstOrIn}
 use Rattle.pair.specs.declared.Pair.{Pair}
 use Rattle.pair.specs.Pairs.{pairs, plus, times, multiple, PartsWithin}
 use Rattle.join.specs.declared.JoinAnswer.{JoinAnswer}
@@ -95,22 +95,9 @@ causes a z T room =
     record { refusal = R.DeadEnd; holds = DeadEnd a z } ∷
     record { refusal = R.Room; holds = room < 24 } ∷ []
 
-abbrev pub numberOfJoins : JoinAnswer → ℕ
-numberOfJoins (answers.Listed n) = 0
-numberOfJoins (answers.Refused r) = numberOf r
+abbrev pub answerOfJoins : JoinAnswer → Answer ℕ
+answerOfJoins (answers.Listed n) = given n
+answerOfJoins (answers.Refused r) = refuse r 0
 
-abbrev pub countOfJoins : JoinAnswer → ℕ
-countOfJoins (answers.Listed n) = n
-countOfJoins (answers.Refused r) = 0
-
-pub record Answered (a z T : Pair) (count : ℕ) (area : List ℤ) : Type 0 where
-  pub triples : List Triple
-  pub all : AllJoins a z T triples
-  pub counted : count ≡ length triples
-  pub filled : Fills (numbers triples) area
-
-pub record Joined (a z T : Pair) (room : ℕ) (area : List ℤ) (r : JoinAnswer) : Type 0 where
-  pub refusal : First (causes a z T room) (numberOfJoins r)
-  pub same-room : length area ≡ room
-  pub cleared : numberOfJoins r ≢ 0 → Fills [] area
-  pub listed : numberOfJoins r ≡ 0 → Answered a z T (countOfJoins r) area
+abbrev pub Joined : Pair → Pair → Pair → List ℤ → List ℤ → JoinAnswer → Type 0
+Joined a z T before after r = FirstOrIn (causes a z T (length before)) (AllJoins a z T) numbers length before after (answerOfJoins r)

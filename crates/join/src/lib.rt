@@ -3,11 +3,12 @@ ghost use mathlib.Core.Path.{_≡_};
 ghost use mathlib.Core.List.{[], _∷_, _++_};
 ghost use Prim.Native.Nat.{_+_, _≤_};
 ghost use lib.ListN.{length, drop};
-ghost use Rattle.whole.specs.Area.{Cleared};
 ghost use Rattle.whole.specs.Number.{Tells};
+ghost use Rattle.area.specs.Area.{Cleared};
 ghost use Rattle.join.specs.declared.JoinAnswer.the-variants as answers;
 ghost use Rattle.join.specs.Listing.{InRange, DeadEnd, Join, Joined, numbers};
 ghost use Rattle.join.specs.Steps.{triple, shift, discriminant, Quartered, Half, Sized, Writes};
+use area::clear;
 use divisor::PairRoot;
 use divisor::root;
 use pair::Pair;
@@ -20,7 +21,6 @@ use pair::sum;
 use pair::within;
 use refusal::Refusal;
 use whole::Exact;
-use whole::clear;
 use whole::quotient;
 
 // How many triples the area holds, or why there is no list.
@@ -144,7 +144,7 @@ fn refused(area: &mut [i64], r: Refusal) -> JoinAnswer
 
 // Every curve from leg a to leg z over the travel t: how many there are, and in the area six numbers for each.
 pub fn joins(a: Pair, z: Pair, t: Pair, area: &mut [i64]) -> JoinAnswer
-    ensures { λ r. ⌜ Joined a z t (length (now (area .entry))) (now (area .exit)) r ⌝ }
+    ensures { λ r. ⌜ Joined a z t (now (area .entry)) (now (area .exit)) r ⌝ }
 {
     if !in_range(a, z, t) {
         return refused(area, Refusal::Range);

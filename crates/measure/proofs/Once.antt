@@ -1,67 +1,59 @@
 -- One answer of each promise.
 --   measured-once       what `length` promises
 --   inflected-once      what `inflections` promises
-use mathlib.Core.Path.{_≡_, refl, sym, ap, _∙_, subst}
-use mathlib.Core.List.{List}
-use mathlib.Core.Bool.{Bool}
-use Prim.Native.Nat.{ℕ}
-use native.Mathlib.Omega.{arith}
-use lib.IntN.{ℤ}
-use Rattle.refusal.proofs.Laws.{number-positive, number-once, first-once}
-use Rattle.whole.specs.Number.{wholes, Tells}
-use Rattle.whole.specs.Poly.{at}
+use mathlib.Core.Path.{_≡_, sym, ap, _∙_, subst}
+use Rattle.refusal.proofs.Answers.{refuse-once, first-or-once}
+use Rattle.whole.specs.Number.{Tells}
 use Rattle.whole.proofs.Flags.{told-once}
+use Rattle.root.specs.declared.pairs.Quadratic.{Quadratic}
 use Rattle.curve.specs.declared.Curve.{Curve}
-use Rattle.curve.specs.declared.Preimage.{Preimage}
 use Rattle.curve.specs.Curves.{pointsOf, legPolynomial}
-use Rattle.curve.proofs.Once.{preimage-once}
-use Rattle.curve.specs.Promise.{preimage-causes}
+use Rattle.verdict.specs.Promise.{preimage-causes}
+use Rattle.verdict.proofs.Once.{one-preimage}
+use Rattle.measure.specs.declared.lengths.Length.{Length}
+use Rattle.measure.specs.declared.counting.Inflections.{Inflections}
 use Rattle.measure.specs.declared.LengthAnswer.{LengthAnswer}
 use Rattle.measure.specs.declared.LengthAnswer.the-variants as L
 use Rattle.measure.specs.declared.InflectionAnswer.{InflectionAnswer}
 use Rattle.measure.specs.declared.InflectionAnswer.the-variants as I
 use Rattle.measure.specs.declared.Turning.{Turning}
-use Rattle.measure.specs.Turns.{turningOf, Straight, CountIs}
-use Rattle.measure.specs.Promises.{numberOfLength, valuesOfLength, numberOfInflections, Measured, Inflected}
-use Rattle.measure.specs.Steps.{lengthBy}
+use Rattle.measure.specs.Turns.{Straight, CountIs, Inflects}
+use Rattle.measure.specs.Promises.{answerOfLength, answerOfInflections, LengthOf, InflectionsOf, Measured, Inflected}
 use Rattle.measure.proofs.Most.{count-once}
 
+-- ---- length
+length-answer-once : (r s : LengthAnswer) → answerOfLength r ≡ answerOfLength s → r ≡ s
+length-answer-once (L.Found l) (L.Found m) e = cc
+length-answer-once (L.Found l) (L.Refused t) e = cc
+length-answer-once (L.Refused r) (L.Found m) e = cc
+length-answer-once (L.Refused r) (L.Refused t) e = ap L.Refused (refuse-once Length e)
+
+-- ---- inflections
+inflections-answer-once : (r s : InflectionAnswer) → answerOfInflections r ≡ answerOfInflections s → r ≡ s
+inflections-answer-once (I.Found i) (I.Found j) e = cc
+inflections-answer-once (I.Found i) (I.Refused t) e = cc
+inflections-answer-once (I.Refused r) (I.Found j) e = cc
+inflections-answer-once (I.Refused r) (I.Refused t) e = ap I.Refused (refuse-once Inflections e)
+
+inflects-once : (w : Quadratic) (i j : Inflections) → Inflects w i → Inflects w j → i ≡ j
+inflects-once w i j h k =
+    let e : j .turning ≡ i .turning = k .turning ∙ sym (h .turning) in
+    let count = count-once (i .turning) (i .count) (j .count) (h .count) (subst (λ (x : Turning). CountIs x (j .count)) e (k .count)) in
+    let mark = told-once (Straight (i .turning)) (i .straight) (j .straight) (h .straight) (subst (λ (x : Turning). Tells (Straight x) (j .straight)) e (k .straight)) in
+    λ t. record { turning = sym e t; count = count t; straight = mark t }
+
 module _ (curve : Curve) where
-  -- ---- length
-  -- an answer, from its values
-  valued : List ℤ → LengthAnswer
-  valued l = L.Length (at wholes l 0) (at wholes l 1) (at wholes l 2)
+  lengths-once : (l m : Length) → LengthOf curve l → LengthOf curve m → l ≡ m
+  lengths-once l m h k = let (p, e, f) = one-preimage (legPolynomial (pointsOf curve)) h k in e ∙ sym f
 
   pub measured-once : (r s : LengthAnswer) → Measured curve r → Measured curve s → r ≡ s
-  unfolding valued
-  measured-once r s h k = by r s h k (first-once (preimage-causes (pointsOf curve)) (numberOfLength r) (numberOfLength s) (h .refusal) (k .refusal))
-    where
-      by : (r s : LengthAnswer) → Measured curve r → Measured curve s → numberOfLength r ≡ numberOfLength s → r ≡ s
-      by (L.Length c a b) (L.Length c′ a′ b′) h k e =
-          let (p, is, v) = h .values refl in
-          let (p′, is′, v′) = k .values refl in
-          ap valued (v ∙ ap (λ (x : Preimage). valuesOfLength (lengthBy curve (x .square))) (preimage-once (legPolynomial (pointsOf curve)) p p′ is is′) ∙ sym v′)
-      by (L.Length c a b) (L.Refused t) h k e = absurd (omega (arith, number-positive t, e))
-      by (L.Refused r) (L.Length c a b) h k e = absurd (omega (arith, number-positive r, e))
-      by (L.Refused r) (L.Refused t) h k e = ap L.Refused (number-once r t e)
+  measured-once r s h k =
+      length-answer-once r s (first-or-once (preimage-causes (pointsOf curve)) (LengthOf curve) lengths-once (answerOfLength r) (answerOfLength s) h k)
 
-  -- ---- inflections
-  shown-once : (x x′ : Turning) (k k′ : ℕ) (m m′ : Bool) → x ≡ x′ → CountIs x k → CountIs x′ k′ → Tells (Straight x) m → Tells (Straight x′) m′
-      → I.Inflections x k m ≡ I.Inflections x′ k′ m′
-  shown-once x x′ k k′ m m′ e c c′ t t′ =
-      let count = count-once x k k′ c (subst (λ (y : Turning). CountIs y k′) (sym e) c′) in
-      let mark = told-once (Straight x) m m′ t (subst (λ (y : Turning). Tells (Straight y) m′) (sym e) t′) in
-      λ i. I.Inflections (e i) (count i) (mark i)
+  inflections-once : (i j : Inflections) → InflectionsOf curve i → InflectionsOf curve j → i ≡ j
+  inflections-once i j h k = let (p, e, f) = one-preimage (legPolynomial (pointsOf curve)) h k in inflects-once (p .w) i j e f
 
   pub inflected-once : (r s : InflectionAnswer) → Inflected curve r → Inflected curve s → r ≡ s
-  inflected-once r s h k = by r s h k (first-once (preimage-causes (pointsOf curve)) (numberOfInflections r) (numberOfInflections s) (h .refusal) (k .refusal))
-    where
-      by : (r s : InflectionAnswer) → Inflected curve r → Inflected curve s → numberOfInflections r ≡ numberOfInflections s → r ≡ s
-      by (I.Inflections x k m) (I.Inflections x′ k′ m′) h j e =
-          let (p, is, v) = h .values refl in
-          let (p′, is′, v′) = j .values refl in
-          let turning = v .0 ∙ ap (λ (y : Preimage). turningOf (y .w)) (preimage-once (legPolynomial (pointsOf curve)) p p′ is is′) ∙ sym (v′ .0) in
-          shown-once x x′ k k′ m m′ turning (v .1) (v′ .1) (v .2) (v′ .2)
-      by (I.Inflections x k m) (I.Refused t) h j e = absurd (omega (arith, number-positive t, e))
-      by (I.Refused r) (I.Inflections x k m) h j e = absurd (omega (arith, number-positive r, e))
-      by (I.Refused r) (I.Refused t) h j e = ap I.Refused (number-once r t e)
+  inflected-once r s h k =
+      inflections-answer-once r s
+      (first-or-once (preimage-causes (pointsOf curve)) (InflectionsOf curve) inflections-once (answerOfInflections r) (answerOfInflections s) h k)

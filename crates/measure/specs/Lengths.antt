@@ -1,10 +1,13 @@
 -- The length √c · A / B of a curve with a pre-image, from q (document 004, 17.14).
 --   cubicA, quinticA      A, by the kind of curve
 --   lengthA, lengthB      A and B of a curve
+--   lengthOf              c, A and B where N = c q²
 use lib.IntN.{ℤ, pos, _+ℤ_, _*ℤ_}
 use Rattle.root.specs.declared.Quartic.{Quartic}
 use Rattle.curve.specs.declared.Curve.{Curve}
 use Rattle.curve.specs.declared.Curve.the-variants.{Cubic, Quintic}
+use Rattle.verdict.specs.declared.Square.{Square}
+use Rattle.measure.specs.declared.lengths.Length.{Length}
 
 abbrev pub cubicA : Quartic → ℤ
 cubicA q = q .q0 *ℤ pos 6 +ℤ q .q1 *ℤ pos 3 +ℤ q .q2 *ℤ pos 2
@@ -19,3 +22,6 @@ lengthA (Quintic c) q = quinticA q
 abbrev pub lengthB : Curve → ℤ
 lengthB (Cubic c) = pos 2
 lengthB (Quintic c) = pos 12
+
+abbrev pub lengthOf : Curve → Square → Length
+lengthOf curve s = record { c = s .c; a = lengthA curve (s .q); b = lengthB curve }

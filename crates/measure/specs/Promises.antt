@@ -1,48 +1,38 @@
--- What `length` and `inflections` promise. For each answer there is a definition of the document's number and values by cases.
---   numberOfLength, valuesOfLength         the refusal's number, 0 for an answer; c, A and B
---   numberOfInflections, Inflects          the refusal's number, 0 for an answer; that the answer is that of w
---   Measured, Inflected                    the promises
+-- What `length` and `inflections` promise.
+--   answerOfLength, answerOfInflections     the length, or the refusal; the inflections, or the refusal
+--   LengthOf, InflectionsOf                 that they are those of the curve's pre-image
+--   Measured, Inflected                     the promises
 use mathlib.Core.Path.{_≡_}
-use mathlib.Core.List.{List, [], _∷_}
-use Prim.Native.Nat.{ℕ}
-use lib.IntN.{ℤ}
-use Rattle.refusal.specs.Table.{First, numberOf}
-use Rattle.whole.specs.Number.{Tells}
-use Rattle.root.specs.declared.pairs.Quadratic.{Quadratic}
+use Rattle.refusal.specs.Answers.{Answer, refuse, given, FirstOr}
 use Rattle.curve.specs.declared.Curve.{Curve}
-use Rattle.curve.specs.declared.Preimage.{Preimage}
 use Rattle.curve.specs.Curves.{pointsOf, legPolynomial}
-use Rattle.curve.specs.Verdicts.{PreimageOf}
-use Rattle.curve.specs.Promise.{preimage-causes}
+use Rattle.verdict.specs.Verdicts.{WithPreimage}
+use Rattle.verdict.specs.Promise.{preimage-causes}
+use Rattle.measure.specs.declared.lengths.Length.{Length}
+use Rattle.measure.specs.declared.counting.Inflections.{Inflections}
 use Rattle.measure.specs.declared.LengthAnswer.{LengthAnswer}
 use Rattle.measure.specs.declared.LengthAnswer.the-variants as L
 use Rattle.measure.specs.declared.InflectionAnswer.{InflectionAnswer}
 use Rattle.measure.specs.declared.InflectionAnswer.the-variants as I
-use Rattle.measure.specs.Lengths.{lengthA, lengthB}
-use Rattle.measure.specs.Turns.{turningOf, Straight, CountIs}
+use Rattle.measure.specs.Lengths.{lengthOf}
+use Rattle.measure.specs.Turns.{Inflects}
 
-abbrev pub numberOfLength : LengthAnswer → ℕ
-numberOfLength (L.Length c a b) = 0
-numberOfLength (L.Refused r) = numberOf r
+abbrev pub answerOfLength : LengthAnswer → Answer Length
+answerOfLength (L.Found l) = given l
+answerOfLength (L.Refused r) = refuse r 0
 
-abbrev pub valuesOfLength : LengthAnswer → List ℤ
-valuesOfLength (L.Length c a b) = c ∷ a ∷ b ∷ []
-valuesOfLength (L.Refused r) = []
+abbrev pub answerOfInflections : InflectionAnswer → Answer Inflections
+answerOfInflections (I.Found i) = given i
+answerOfInflections (I.Refused r) = refuse r 0
 
-abbrev pub numberOfInflections : InflectionAnswer → ℕ
-numberOfInflections (I.Inflections x k m) = 0
-numberOfInflections (I.Refused r) = numberOf r
+abbrev pub LengthOf : Curve → Length → Type 0
+LengthOf curve l = WithPreimage (legPolynomial (pointsOf curve)) (λ p. l ≡ lengthOf curve (p .square))
 
-abbrev pub Inflects : Quadratic → InflectionAnswer → Type 0
-Inflects w (I.Inflections x k m) = (x ≡ turningOf w) × CountIs x k × Tells (Straight x) m
-Inflects w (I.Refused r) = ⊥
+abbrev pub InflectionsOf : Curve → Inflections → Type 0
+InflectionsOf curve i = WithPreimage (legPolynomial (pointsOf curve)) (λ p. Inflects (p .w) i)
 
-pub record Measured (curve : Curve) (r : LengthAnswer) : Type 0 where
-  pub refusal : First (preimage-causes (pointsOf curve)) (numberOfLength r)
-  pub values : numberOfLength r ≡ 0
-      → (p : Preimage) × PreimageOf (legPolynomial (pointsOf curve)) p
-      × (valuesOfLength r ≡ p .square .c ∷ lengthA curve (p .square .q) ∷ lengthB curve ∷ [])
+abbrev pub Measured : Curve → LengthAnswer → Type 0
+Measured curve r = FirstOr (preimage-causes (pointsOf curve)) (LengthOf curve) (answerOfLength r)
 
-pub record Inflected (curve : Curve) (r : InflectionAnswer) : Type 0 where
-  pub refusal : First (preimage-causes (pointsOf curve)) (numberOfInflections r)
-  pub values : numberOfInflections r ≡ 0 → (p : Preimage) × PreimageOf (legPolynomial (pointsOf curve)) p × Inflects (p .w) r
+abbrev pub Inflected : Curve → InflectionAnswer → Type 0
+Inflected curve r = FirstOr (preimage-causes (pointsOf curve)) (InflectionsOf curve) (answerOfInflections r)

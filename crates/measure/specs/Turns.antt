@@ -5,6 +5,7 @@
 --   Alternate                  none of the numbers is zero, and each has another sign than the one before
 --   Changes x k                k changes of sign, seen at k + 1 fractions over one denominator
 --   Straight, CountIs          zero throughout; the greatest k, and 0 where it is zero throughout
+--   Inflects w i               i is the turning polynomial of w with its count and its mark
 use mathlib.Core.Path.{_≡_}
 use mathlib.Core.List.{List, [], _∷_, map}
 use mathlib.Core.Logic.{_≢_, _⊎_}
@@ -12,9 +13,11 @@ use Prim.Native.Nat.{ℕ, suc, _≤_, _<_, _*_}
 use lib.IntN.{ℤ, pos, _+ℤ_, _-ℤ_, _*ℤ_}
 use lib.Signed.{_<ℤ_}
 use lib.ListN.{length}
+use Rattle.whole.specs.Number.{Tells}
 use Rattle.pair.specs.declared.Pair.{Pair}
 use Rattle.root.specs.declared.pairs.Quadratic.{Quadratic}
 use Rattle.measure.specs.declared.Turning.{Turning}
+use Rattle.measure.specs.declared.counting.Inflections.{Inflections}
 
 abbrev pub cross : Pair → Pair → ℤ
 cross a b = a .re *ℤ b .im -ℤ b .re *ℤ a .im
@@ -47,3 +50,8 @@ Straight x = (x .t0 ≡ pos 0) × (x .t1 ≡ pos 0) × (x .t2 ≡ pos 0)
 pub record CountIs (x : Turning) (k : ℕ) : Type 0 where
   pub reached : (Straight x × (k ≡ 0)) ⊎ Changes x k
   pub most : (j : ℕ) → Changes x j → j ≤ k
+
+pub record Inflects (w : Quadratic) (i : Inflections) : Type 0 where
+  pub turning : i .turning ≡ turningOf w
+  pub count : CountIs (i .turning) (i .count)
+  pub straight : Tells (Straight (i .turning)) (i .straight)

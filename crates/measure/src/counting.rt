@@ -6,8 +6,15 @@ ghost use mathlib.Core.Path.{_≡_};
 ghost use Rattle.whole.specs.Number.{Tells};
 ghost use Rattle.pair.specs.Pairs.{PartsWithin, AllWithin};
 ghost use Rattle.root.specs.Pairs.{quadratic};
-ghost use Rattle.measure.specs.Turns.{cross, turningOf, Straight, CountIs};
+ghost use Rattle.measure.specs.Turns.{cross, turningOf, Straight, CountIs, Inflects};
 ghost use Rattle.measure.specs.Steps.{Moderate};
+
+// How often the turning polynomial changes its sign, and whether it is zero throughout.
+pub struct Inflections {
+    pub turning: Turning,
+    pub count: u8,
+    pub straight: bool,
+}
 
 // x_jk of two coefficients of w.
 fn cross(a: Pair, b: Pair) -> i64
@@ -21,7 +28,7 @@ fn cross(a: Pair, b: Pair) -> i64
     ax * by - bx * ay
 }
 
-pub(crate) fn turning(w: Quadratic) -> Turning
+fn turning(w: Quadratic) -> Turning
     requires { ⌜ AllWithin 2000 (quadratic w) ⌝ }
     ensures { λ x. ⌜ x ≡ turningOf w ⌝ }
 {
@@ -39,7 +46,7 @@ pub(crate) fn turning(w: Quadratic) -> Turning
 }
 
 // The signs of a and c, the values at the ends, and of b, twice the Bernstein coefficient between them, decide; the discriminant is b^2 - 4 a c.
-pub(crate) fn count(x: Turning) -> u8
+fn count(x: Turning) -> u8
     requires { ⌜ Moderate x ⌝ }
     ensures { λ k. ⌜ CountIs x k ⌝ }
 {
@@ -64,7 +71,7 @@ pub(crate) fn count(x: Turning) -> u8
     0
 }
 
-pub(crate) fn is_straight(x: Turning) -> bool
+fn is_straight(x: Turning) -> bool
     ensures { λ r. ⌜ Tells (Straight x) r ⌝ }
 {
     let t0 = x.t0;
@@ -80,4 +87,19 @@ pub(crate) fn is_straight(x: Turning) -> bool
         return false;
     }
     true
+}
+
+// The inflections, where D = k w^2.
+pub(crate) fn inflections_by(w: Quadratic) -> Inflections
+    requires { ⌜ AllWithin 2000 (quadratic w) ⌝ }
+    ensures { λ r. ⌜ Inflects w r ⌝ }
+{
+    let turning = turning(w);
+    let count = count(turning);
+    let straight = is_straight(turning);
+    Inflections {
+        turning,
+        count,
+        straight,
+    }
 }

@@ -2,10 +2,11 @@
 --   root-asked                      what is known of the root of a curve with a pre-image
 --   denominated-beyond, denominated-refused, denominated-found      W, or the refusal, from the answers of the tests
 --   offset-refused, offset-put      the offset, or the refusal, from W and the area
-use mathlib.Core.Path.{_≡_, refl, ap, _∙_, subst}
+--   written-needs                   an offset that is written has as many numbers as its curve needs
+use mathlib.Core.Path.{_≡_, refl, ap, _∙_}
 use mathlib.Core.List.{List, [], _∷_}
 use mathlib.Core.Logic.{inl, inr}
-use Prim.Native.Nat.{ℕ}
+use Prim.Native.Nat.{ℕ, zero, suc, _*_}
 use native.Mathlib.Omega.{arith}
 use lib.IntN.{ℤ}
 use lib.ListN.{length}
@@ -13,27 +14,28 @@ use Rattle.refusal.specs.declared.Refusal.{Refusal}
 use Rattle.refusal.specs.declared.Refusal.the-variants as R
 use Rattle.refusal.specs.Table.{Cause, First, numberOf}
 use Rattle.refusal.proofs.Laws.{first-kept, first-after, number-some}
-use Rattle.whole.specs.Area.{Cleared, Fills}
+use Rattle.refusal.proofs.Answers.{first-or-by}
 use Rattle.whole.specs.Number.{Within}
-use Rattle.whole.proofs.Areas.{fills-none}
+use Rattle.area.specs.Area.{Cleared}
+use Rattle.area.proofs.Promises.{refused-in, given-in, first-or-in-by}
 use Rattle.pair.specs.declared.Pair.{Pair}
 use Rattle.root.specs.declared.Quartic.{Quartic}
 use Rattle.root.specs.Roots.{quartic}
 use Rattle.curve.specs.declared.Curve.{Curve}
-use Rattle.curve.specs.declared.Preimage.{Preimage}
-use Rattle.curve.specs.declared.PreimageAnswer.the-variants as P
 use Rattle.curve.specs.Curves.{pointsOf, legPolynomial}
-use Rattle.curve.specs.Promise.{still, not-ph, no-preimage, preimage-causes, Preimaged}
 use Rattle.curve.proofs.LegPolynomial.{pointsOf-length}
-use Rattle.curve.proofs.Sizes.{root-size}
-use Rattle.curve.proofs.Once.{preimage-once}
-use Rattle.curve.proofs.FoundSizes.{found-in-range}
+use Rattle.verdict.specs.declared.Preimage.{Preimage}
+use Rattle.verdict.specs.declared.PreimageAnswer.the-variants as P
+use Rattle.verdict.specs.Promise.{still, not-ph, no-preimage, preimage-causes, Preimaged}
+use Rattle.verdict.proofs.RootSizes.{root-size}
+use Rattle.verdict.proofs.Once.{preimage-once}
+use Rattle.verdict.proofs.FoundSizes.{found-in-range}
 use Rattle.offset.specs.declared.Denominator.{Denominator}
 use Rattle.offset.specs.declared.Denominator.the-variants as W
 use Rattle.offset.specs.declared.OffsetAnswer.{OffsetAnswer}
-use Rattle.offset.specs.declared.OffsetAnswer.the-variants.{Refused}
-use Rattle.offset.specs.Offsets.{offsetCurve, offsetNumbers, beyond, no-root, no-room, numberOfOffset, OffsetBy}
-use Rattle.offset.specs.Steps.{RootAsked, IsRooted, Denominated, PutIn}
+use Rattle.offset.specs.declared.OffsetAnswer.the-variants.{Written, Refused}
+use Rattle.offset.specs.Offsets.{offsetCurve, numbersOf, degreeOf, needs, offsetNumbers, beyond, no-root, no-room, curve-causes, OffsetBy}
+use Rattle.offset.specs.Steps.{RootAsked, no-square, answerOfDenominator, IsRooted, Denominated, PutIn}
 
 module _ (curve : Curve) where
   abbrev ps : List Pair
@@ -43,13 +45,19 @@ module _ (curve : Curve) where
   module _ (p : Preimage) (i : Preimaged ps (P.Found p)) where
     pub root-asked : RootAsked (p .square)
     root-asked =
-        let s = i .preimage refl .square-of in
+        let s = i .1 .square-of in
         record { positive = s .positive; small = root-size ps (found-in-range ps p i) (pointsOf-length curve) (p .square .c) (quartic (p .square .q)) (s .positive) (s .squared) }
+
+    -- the root of c is that of the one pre-image
+    root-cause : (n : ℕ) → First (no-square (p .square) ∷ []) n → First (no-root ps ∷ []) n
+    root-cause n (inl (none, e)) =
+        inl (λ q m k f. none m (ap (λ (z : Preimage). z .square .c) (preimage-once (legPolynomial ps) p q (i .1) k) ∙ f), e)
+    root-cause n (inr (some, e)) = inr (λ none. some (λ m f. none p m (i .1) f), e)
 
   -- ---- W
   module _ (h : ℤ) where
     pub denominated-beyond : (Within 20000 h → ⊥) → Denominated curve h (W.Refused R.Range)
-    denominated-beyond n = record { refusal = inl (λ both. n (both .1), refl); gives = λ e. absurd (omega arith) }
+    denominated-beyond n = (inl (λ both. n (both .1), refl), refl)
 
     module _ (w : Within 20000 h) where
       -- the causes of the pre-image, with h in the range
@@ -61,50 +69,37 @@ module _ (curve : Curve) where
       with-h n (inr f) = inr (λ out. f .0 (λ r. out (r, w)), f .1)
 
       pub denominated-refused : (r : Refusal) → Preimaged ps (P.Refused r) → Denominated curve h (W.Refused r)
-      denominated-refused r i = record {
-        refusal = first-kept causes (no-root ps ∷ []) (numberOf r) (with-h (numberOf r) (i .refusal)) (number-some r);
-        gives = λ e. absurd (number-some r e);
-      }
+      denominated-refused r i = (first-kept causes (no-root ps ∷ []) (numberOf r) (with-h (numberOf r) (i .0)) (number-some r), i .1)
 
       pub denominated-found : (p : Preimage) → Preimaged ps (P.Found p) → (r : Denominator) → IsRooted (p .square) r → Denominated curve h r
-      denominated-found p i (W.Found v) m = record {
-        refusal = first-after causes (no-root ps ∷ []) 0 (with-h 0 (i .refusal)) (inr (λ none. none p (m .m) (i .preimage refl) (m .root), refl));
-        gives = λ e. record {
-          asked = record { range = found-in-range ps p i; h-small = w; w-small = m .small };
-          preimage = p;
-          is-preimage = i .preimage refl;
-          rooted = m;
-        };
-      }
-      denominated-found p i (W.Refused r) m = record {
-        refusal = first-after causes (no-root ps ∷ []) (numberOf r) (with-h 0 (i .refusal)) (inl (none, ap numberOf (m .0)));
-        gives = λ e. absurd (number-some r e);
-      }
-        where
-          none : no-root ps .holds
-          none q n k e = m .1 n (ap (λ (z : Preimage). z .square .c) (preimage-once (legPolynomial ps) p q (i .preimage refl) k) ∙ e)
+      denominated-found p i r =
+          first-or-by (no-square (p .square) ∷ []) (curve-causes curve h)
+          (λ n f. first-after causes (no-root ps ∷ []) n (with-h 0 (i .0)) (root-cause p i n f))
+          (λ v k. record {
+            asked = record { range = found-in-range ps p i; h-small = w; w-small = k .small };
+            rooted = record { preimage = p; is-preimage = i .1; has = k };
+          })
+          (answerOfDenominator r)
 
     -- ---- the area
-    pub offset-refused : (r : Refusal) (before after : List ℤ) → Denominated curve h (W.Refused r) → Cleared before after → length after ≡ length before → OffsetBy curve h before after (Refused r)
-    offset-refused r before after i z l = record {
-      refusal = first-kept (beyond curve h ∷ still ps ∷ not-ph ps ∷ no-preimage ps ∷ no-root ps ∷ []) (no-room curve (length before) ∷ []) (numberOf r) (i .refusal) (number-some r);
-      same-room = l;
-      cleared = λ n. fills-none before z;
-      written = λ e. absurd (number-some r e);
-    }
+    pub offset-refused : (r : Refusal) (before after : List ℤ) → Denominated curve h (W.Refused r) → Cleared before after → OffsetBy curve h before after (Refused r)
+    offset-refused r before after i = refused-in r (first-kept (curve-causes curve h) (no-room curve (length before) ∷ []) (numberOf r) (i .0) (number-some r))
 
     pub offset-put : (w : Quartic) (before after : List ℤ) (r : OffsetAnswer) → Denominated curve h (W.Found w) → PutIn curve (offsetCurve ps (quartic w) h) before after r → OffsetBy curve h before after r
-    offset-put w before after r i a =
-        let g = i .gives refl in
-        record {
-          refusal = first-after (beyond curve h ∷ still ps ∷ not-ph ps ∷ no-preimage ps ∷ no-root ps ∷ []) (no-room curve (length before) ∷ []) (numberOfOffset r) (i .refusal) (a .refusal);
-          same-room = a .same-room;
-          cleared = a .cleared;
-          written = λ e. record {
-            preimage = g .preimage;
-            is-preimage = g .is-preimage;
-            m = g .rooted .m;
-            root = g .rooted .root;
-            fills = subst (λ u. Fills (offsetNumbers curve (offsetCurve ps u h)) after) (g .rooted .is) (a .written e);
-          };
-        }
+    offset-put w before after r i =
+        let g = i .1 .rooted in
+        first-or-in-by (no-room curve (length before) ∷ [])
+        (λ n. first-after (curve-causes curve h) (no-room curve (length before) ∷ []) n (i .0))
+        (λ ns e. record {
+          preimage = g .preimage;
+          is-preimage = g .is-preimage;
+          has = record { m = g .has .m; root = g .has .root; is = e ∙ ap (λ u. offsetNumbers curve (offsetCurve ps u h)) (g .has .is) };
+        })
+
+numbersOf-length : (points : ℕ) (w x y : ℕ → ℤ) → length (numbersOf points w x y) ≡ 3 * points
+unfolding numbersOf
+numbersOf-length zero w x y = refl
+numbersOf-length (suc points) w x y = omega (arith, numbersOf-length points (λ k. w (suc k)) (λ k. x (suc k)) (λ k. y (suc k)))
+
+pub written-needs : (curve : Curve) (h : ℤ) {before after : List ℤ} {n : ℕ} → OffsetBy curve h before after (Written n) → n ≡ needs curve
+written-needs curve h o = let (ns, of, e, f) = given-in o in e ∙ ap length (of .has .is) ∙ numbersOf-length (suc (degreeOf curve)) _ _ _

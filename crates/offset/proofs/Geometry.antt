@@ -25,9 +25,9 @@ use Rattle.curve.specs.declared.Curve.{Curve}
 use Rattle.curve.specs.declared.Curve.the-variants.{Cubic, Quintic}
 use Rattle.curve.specs.Curves.{pointsOf, powerForm, legPolynomial, reals, imaginaries, squaredLength}
 use Rattle.curve.proofs.LegPolynomial.{Part, re-part, im-part, legPolynomial-above}
-use Rattle.curve.proofs.Lengths.{squared-above}
 use Rattle.curve.proofs.Derivative.{derivative}
-use Rattle.offset.specs.Offsets.{bernstein, Rational, offsetCurve, degreeOf, scaleOf, OffsetIn}
+use Rattle.verdict.proofs.Multiples.{squared-above}
+use Rattle.offset.specs.Offsets.{bernstein, Rational, offsetCurve, degreeOf, scaleOf, OffsetOf}
 use Rattle.offset.proofs.Paths.{at-part}
 use Rattle.offset.proofs.Bernstein.{bernstein-value, whole-weights}
 
@@ -89,7 +89,7 @@ degree : (curve : Curve) → length (pointsOf curve) - 2 + (length (pointsOf cur
 degree (Cubic c) = refl
 degree (Quintic c) = refl
 
-module _ (curve : Curve) (h : ℤ) (area : List ℤ) (i : OffsetIn curve h area) where
+module _ (curve : Curve) (h : ℤ) (ns : List ℤ) (i : OffsetOf curve h ns) where
   abbrev points : List Pair
   points = pointsOf curve
 
@@ -97,12 +97,12 @@ module _ (curve : Curve) (h : ℤ) (area : List ℤ) (i : OffsetIn curve h area)
   q = quartic (i .preimage .square .q)
 
   abbrev weight : List ℤ
-  weight = scaled wholes (pos (i .m)) q
+  weight = scaled wholes (pos (i .has .m)) q
 
   pub offset-squared : Same wholes (square wholes weight) (squaredLength (legPolynomial points))
   offset-squared k =
-      square-scaled wholes-ring (pos (i .m)) q k
-      ∙ ap (λ c. at wholes (scaled wholes c (square wholes q)) k) (sym (i .root))
+      square-scaled wholes-ring (pos (i .has .m)) q k
+      ∙ ap (λ c. at wholes (scaled wholes c (square wholes q)) k) (sym (i .has .root))
       ∙ sym (i .is-preimage .square-of .squared k)
 
   -- ---- degrees
@@ -128,7 +128,7 @@ module _ (curve : Curve) (h : ℤ) (area : List ℤ) (i : OffsetIn curve h area)
 
   weight-above : Above wholes (at wholes weight) (length points - 2)
   weight-above =
-      scaled-above wholes-ring (pos (i .m)) q (length points - 2)
+      scaled-above wholes-ring (pos (i .has .m)) q (length points - 2)
       (squared-above (legPolynomial points) (length points - 2) (i .preimage .square .c) q (legPolynomial-above points) (i .is-preimage .square-of .positive) (i .is-preimage .square-of .squared))
 
   -- W times a part of r, and h times a part of D

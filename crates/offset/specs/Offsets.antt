@@ -6,27 +6,31 @@
 --   numbersOf                  W0, X0, Y0, W1, .. of the first points
 --   degreeOf, scaleOf, needs   9 and 252 for a quintic, 5 and 10 for a cubic; three numbers a point
 --   offsetNumbers              all numbers of a curve's offset
---   numberOfOffset             the refusal's number, 0 where the offset is written
 --   beyond, no-root, no-room   the causes of RANGE, ROOT and ROOM
---   OffsetIn, OffsetBy         what the area holds where there is an offset; what `offset` promises
+--   curve-causes, causes       why a curve has no offset at h, whatever the area; the order of all causes: 6, 8, 9, 10, 11, 12
+--   OffsetFrom, OffsetOf       the numbers of the offset, where c is m²; that they are those of the curve's pre-image
+--   answerOfOffset             how many numbers were written, or the refusal
+--   OffsetBy                   what `offset` promises
 use mathlib.Core.Path.{_≡_}
-use mathlib.Core.List.{List, [], _∷_}
+use mathlib.Core.List.{List, [], _∷_, _++_}
 use Prim.Native.Nat.{ℕ, zero, suc, _*_, _/_, _<_}
 use lib.IntN.{ℤ, pos, negℤ, _+ℤ_, _*ℤ_}
 use lib.ListN.{length}
 use Rattle.refusal.specs.declared.Refusal.the-variants as R
-use Rattle.refusal.specs.Table.{Cause, First, numberOf}
+use Rattle.refusal.specs.Table.{Cause}
+use Rattle.refusal.specs.Answers.{Answer, refuse, given}
 use Rattle.whole.specs.Poly.{at, sum, scaled, product, choose}
-use Rattle.whole.specs.Area.{Fills}
 use Rattle.whole.specs.Number.{wholes, Within}
+use Rattle.area.specs.Promise.{FirstOrIn}
 use Rattle.pair.specs.declared.Pair.{Pair}
 use Rattle.root.specs.Roots.{quartic}
 use Rattle.curve.specs.declared.Curve.{Curve}
 use Rattle.curve.specs.declared.Curve.the-variants.{Cubic, Quintic}
-use Rattle.curve.specs.declared.Preimage.{Preimage}
 use Rattle.curve.specs.Curves.{InRange, pointsOf, legPolynomial, powerForm, reals, imaginaries}
-use Rattle.curve.specs.Verdicts.{PreimageOf}
-use Rattle.curve.specs.Promise.{still, not-ph, no-preimage}
+use Rattle.verdict.specs.declared.Preimage.{Preimage}
+use Rattle.verdict.specs.declared.Square.{Square}
+use Rattle.verdict.specs.Verdicts.{PreimageOf, WithPreimage}
+use Rattle.verdict.specs.Promise.{still, not-ph, no-preimage}
 use Rattle.offset.specs.declared.OffsetAnswer.{OffsetAnswer}
 use Rattle.offset.specs.declared.OffsetAnswer.the-variants.{Written, Refused}
 
@@ -75,10 +79,6 @@ offsetNumbers curve o =
     numbersOf (suc (degreeOf curve)) (coefficients (o .w)) (coefficients (o .x)) (coefficients (o .y))
 
 -- ---- the promise
-abbrev pub numberOfOffset : OffsetAnswer → ℕ
-numberOfOffset Written = 0
-numberOfOffset (Refused r) = numberOf r
-
 -- a coordinate of the points, or h, is outside its range
 abbrev pub beyond : Curve → ℤ → Cause
 beyond curve h = record { refusal = R.Range; holds = (InRange (pointsOf curve) × Within 20000 h) → ⊥ }
@@ -89,17 +89,23 @@ no-root ps = record { refusal = R.Root; holds = (p : Preimage) (m : ℕ) → Pre
 abbrev pub no-room : Curve → ℕ → Cause
 no-room curve room = record { refusal = R.Room; holds = room < needs curve }
 
-pub record OffsetIn (curve : Curve) (h : ℤ) (area : List ℤ) : Type 0 where
-  pub preimage : Preimage
-  pub is-preimage : PreimageOf (legPolynomial (pointsOf curve)) preimage
-  pub m : ℕ
-  pub root : preimage .square .c ≡ pos (m * m)
-  pub fills : Fills (offsetNumbers curve (offsetCurve (pointsOf curve) (scaled wholes (pos m) (quartic (preimage .square .q))) h)) area
+abbrev pub curve-causes : Curve → ℤ → List Cause
+curve-causes curve h = let ps = pointsOf curve in beyond curve h ∷ still ps ∷ not-ph ps ∷ no-preimage ps ∷ no-root ps ∷ []
 
-pub record OffsetBy (curve : Curve) (h : ℤ) (before after : List ℤ) (r : OffsetAnswer) : Type 0 where
-  pub refusal : First
-      (beyond curve h ∷ still (pointsOf curve) ∷ not-ph (pointsOf curve) ∷ no-preimage (pointsOf curve) ∷ no-root (pointsOf curve) ∷ no-room curve (length before) ∷ [])
-      (numberOfOffset r)
-  pub same-room : length after ≡ length before
-  pub cleared : (numberOfOffset r ≡ 0 → ⊥) → Fills [] after
-  pub written : numberOfOffset r ≡ 0 → OffsetIn curve h after
+abbrev pub causes : Curve → ℤ → ℕ → List Cause
+causes curve h room = curve-causes curve h ++ no-room curve room ∷ []
+
+pub record OffsetFrom (curve : Curve) (h : ℤ) (s : Square) (ns : List ℤ) : Type 0 where
+  pub m : ℕ
+  pub root : s .c ≡ pos (m * m)
+  pub is : ns ≡ offsetNumbers curve (offsetCurve (pointsOf curve) (scaled wholes (pos m) (quartic (s .q))) h)
+
+abbrev pub OffsetOf : Curve → ℤ → List ℤ → Type 0
+OffsetOf curve h ns = WithPreimage (legPolynomial (pointsOf curve)) (λ p. OffsetFrom curve h (p .square) ns)
+
+abbrev pub answerOfOffset : OffsetAnswer → Answer ℕ
+answerOfOffset (Written n) = given n
+answerOfOffset (Refused r) = refuse r 0
+
+abbrev pub OffsetBy : Curve → ℤ → List ℤ → List ℤ → OffsetAnswer → Type 0
+OffsetBy curve h before after r = FirstOrIn (causes curve h (length before)) (OffsetOf curve h) (λ ns. ns) length before after (answerOfOffset r)

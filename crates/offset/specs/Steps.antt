@@ -8,10 +8,11 @@
 --   Weighted             so it is with the weights of a curve, and the products are within their bound
 --   IsNext               each coefficient and the one above it, added
 --   RowsAsked, RowsOf    W, X and Y so, of a curve in range
---   RootAsked, Rooted, IsRooted     m q where c is m², or that c is no square
---   numberOfDenominator, DenominatorOf, GivesDenominator, Denominated     W of a curve that has an offset, or the first cause but ROOM why it has none
---   PutIn                what is in the area, if it has room
 --   Putting              an area for so many points, and rows within the bound for so many steps
+--   answerOfDenominator  W, or the refusal
+--   RootAsked, Rooted, no-square, IsRooted     m q where c is m², or that c is no square
+--   DenominatorOf, Denominated                 W of a curve that has an offset, or the first cause but ROOM why it has none
+--   PutIn                what is in the area, if it has room
 use mathlib.Core.Path.{_≡_}
 use mathlib.Core.List.{List, [], _∷_}
 use Prim.Native.Nat.{ℕ, zero, suc, _*_, _/_, _<_, _≤_}
@@ -19,25 +20,25 @@ use lib.IntN.{ℤ, pos, natAbs, _+ℤ_, _*ℤ_}
 use lib.ListN.{length}
 use lib.Signed.{_<ℤ_}
 use Rattle.refusal.specs.declared.Refusal.the-variants as R
-use Rattle.refusal.specs.Table.{First, numberOf}
-use Rattle.whole.specs.Area.{Fills}
+use Rattle.refusal.specs.Table.{Cause}
+use Rattle.refusal.specs.Answers.{Answer, refuse, given, FirstOr}
 use Rattle.whole.specs.Poly.{at, Same, sum, scaled, product, choose, Divides}
 use Rattle.whole.specs.Number.{wholes, Within}
+use Rattle.area.specs.Promise.{FirstOrIn}
+use Rattle.root.specs.declared.Quartic.{Quartic}
 use Rattle.root.specs.Roots.{quartic, Small}
 use Rattle.root.specs.Search.{Each}
 use Rattle.curve.specs.declared.Curve.{Curve}
-use Rattle.curve.specs.declared.Square.{Square}
-use Rattle.curve.specs.declared.Preimage.{Preimage}
 use Rattle.curve.specs.Curves.{InRange, pointsOf, legPolynomial}
-use Rattle.curve.specs.Verdicts.{PreimageOf}
-use Rattle.curve.specs.Promise.{still, not-ph, no-preimage}
+use Rattle.verdict.specs.declared.Square.{Square}
+use Rattle.verdict.specs.Verdicts.{WithPreimage}
 use Rattle.offset.specs.declared.Denominator.{Denominator}
 use Rattle.offset.specs.declared.Denominator.the-variants.{Found, Refused}
 use Rattle.offset.specs.declared.OffsetAnswer.{OffsetAnswer}
 use Rattle.offset.specs.declared.Six.{Six}
 use Rattle.offset.specs.declared.Ten.{Ten}
 use Rattle.offset.specs.declared.Rows.{Rows}
-use Rattle.offset.specs.Offsets.{Rational, degreeOf, scaleOf, beyond, no-root, no-room, numberOfOffset, offsetNumbers}
+use Rattle.offset.specs.Offsets.{Rational, degreeOf, scaleOf, offsetNumbers, no-room, curve-causes, answerOfOffset}
 
 abbrev pub six : Six → List ℤ
 six x = x .x0 ∷ x .x1 ∷ x .x2 ∷ x .x3 ∷ x .x4 ∷ x .x5 ∷ []
@@ -118,33 +119,25 @@ pub record Rooted (s : Square) (W : List ℤ) : Type 0 where
   pub is : W ≡ scaled wholes (pos m) (quartic (s .q))
   pub small : Each wholes Small W
 
-abbrev pub IsRooted : Square → Denominator → Type 0
-IsRooted s (Found w) = Rooted s (quartic w)
-IsRooted s (Refused r) = (r ≡ R.Root) × ((m : ℕ) → s .c ≡ pos (m * m) → ⊥)
+-- ROOT, whatever the curve
+abbrev pub no-square : Square → Cause
+no-square s = record { refusal = R.Root; holds = (m : ℕ) → s .c ≡ pos (m * m) → ⊥ }
 
-abbrev pub numberOfDenominator : Denominator → ℕ
-numberOfDenominator (Found w) = 0
-numberOfDenominator (Refused r) = numberOf r
+abbrev pub answerOfDenominator : Denominator → Answer Quartic
+answerOfDenominator (Found w) = given w
+answerOfDenominator (Refused r) = refuse r 0
+
+abbrev pub IsRooted : Square → Denominator → Type 0
+IsRooted s r = FirstOr (no-square s ∷ []) (λ w. Rooted s (quartic w)) (answerOfDenominator r)
 
 pub record DenominatorOf (curve : Curve) (h : ℤ) (W : List ℤ) : Type 0 where
   pub asked : RowsAsked curve h W
-  pub preimage : Preimage
-  pub is-preimage : PreimageOf (legPolynomial (pointsOf curve)) preimage
-  pub rooted : Rooted (preimage .square) W
+  pub rooted : WithPreimage (legPolynomial (pointsOf curve)) (λ p. Rooted (p .square) W)
 
-abbrev pub GivesDenominator : Curve → ℤ → Denominator → Type 0
-GivesDenominator curve h (Found w) = DenominatorOf curve h (quartic w)
-GivesDenominator curve h (Refused r) = ⊥
-
-pub record Denominated (curve : Curve) (h : ℤ) (r : Denominator) : Type 0 where
-  pub refusal : First
-      (beyond curve h ∷ still (pointsOf curve) ∷ not-ph (pointsOf curve) ∷ no-preimage (pointsOf curve) ∷ no-root (pointsOf curve) ∷ [])
-      (numberOfDenominator r)
-  pub gives : numberOfDenominator r ≡ 0 → GivesDenominator curve h r
+abbrev pub Denominated : Curve → ℤ → Denominator → Type 0
+Denominated curve h r = FirstOr (curve-causes curve h) (λ w. DenominatorOf curve h (quartic w)) (answerOfDenominator r)
 
 -- ---- the area
-pub record PutIn (curve : Curve) (o : Rational) (before after : List ℤ) (r : OffsetAnswer) : Type 0 where
-  pub refusal : First (no-room curve (length before) ∷ []) (numberOfOffset r)
-  pub same-room : length after ≡ length before
-  pub cleared : (numberOfOffset r ≡ 0 → ⊥) → Fills [] after
-  pub written : numberOfOffset r ≡ 0 → Fills (offsetNumbers curve o) after
+abbrev pub PutIn : Curve → Rational → List ℤ → List ℤ → OffsetAnswer → Type 0
+PutIn curve o before after r =
+    FirstOrIn (no-room curve (length before) ∷ []) (λ ns. ns ≡ offsetNumbers curve o) (λ ns. ns) length before after (answerOfOffset r)

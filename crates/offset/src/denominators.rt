@@ -1,11 +1,11 @@
 // W = m q of a curve that has an offset.
 use crate::Denominator;
 use curve::Curve;
-use curve::PreimageAnswer;
-use curve::Square;
-use curve::preimage_of;
 use refusal::Refusal;
 use root::Quartic;
+use verdict::PreimageAnswer;
+use verdict::Square;
+use verdict::preimage_of;
 use whole::Root;
 use whole::square_root;
 ghost use mathlib.Core.Path.{_≡_};

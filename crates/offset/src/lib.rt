@@ -4,13 +4,13 @@ mod points;
 mod polynomials;
 mod terms;
 
+use area::clear;
 use curve::Curve;
 use denominators::denominator_of;
 use points::put_points;
 use refusal::Refusal;
 use root::Quartic;
 use terms::rows;
-use whole::clear;
 ghost use mathlib.Core.Path.{_≡_};
 ghost use Prim.Native.Nat.{suc};
 ghost use Rattle.root.specs.Roots.{quartic};
@@ -49,8 +49,9 @@ pub struct Rows {
     pub y: Ten,
 }
 
+// How many numbers the area holds, or why there is no offset.
 pub enum OffsetAnswer {
-    Written,
+    Written(u8),
     Refused(Refusal),
 }
 
@@ -84,7 +85,7 @@ fn put_offset(curve: Curve, h: i64, w: Quartic, area: &mut [i64]) -> OffsetAnswe
     let r = rows(curve, h, w);
     put_points(&mut area[..size], points, r);
     clear(&mut area[size..]);
-    OffsetAnswer::Written
+    OffsetAnswer::Written(size as u8)
 }
 
 // The control points of the offset at distance h: W, X and Y of each, from the area's start, and zeros behind them.

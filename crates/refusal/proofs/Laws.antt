@@ -1,5 +1,5 @@
 -- Laws of the refusal table.
---   number-positive, number-some      no refusal has the number 0, which stands for an answer
+--   number-positive, number-some, number-small     no refusal has the number 0, which stands for an answer, nor one from 32 on
 --   number-once      a number names one refusal
 --   first-once       a call's causes leave one number
 --   NoneHolds, first-none     where that number is 0, no cause holds
@@ -8,56 +8,47 @@
 use mathlib.Core.Path.{_≡_, refl, sym, ap, _∙_}
 use mathlib.Core.List.{List, [], _∷_, _++_}
 use mathlib.Core.Logic.{inl, inr}
-use Prim.Native.Nat.{ℕ, _<_}
+use Prim.Native.Nat.{ℕ, _-_, _<_}
 use native.Mathlib.Omega.{arith}
 use lib.ListN.{getD}
 use Rattle.refusal.specs.declared.Refusal.{Refusal}
 use Rattle.refusal.specs.declared.Refusal.the-variants.{TooLong, Cut, Leftover, Kind, Length, Range, Number, Still, NotPh, NoPreimage, Root, Room, Thirds, DeadEnd}
 use Rattle.refusal.specs.Table.{numberOf, Cause, First}
 
+-- the table's row of a number; of any other number some refusal
+named : ℕ → Refusal
+named n =
+    getD (TooLong ∷ Cut ∷ Leftover ∷ Kind ∷ Length ∷ Range ∷ Number ∷ Still ∷ NotPh ∷ NoPreimage ∷ Root ∷ Room ∷ Thirds ∷ DeadEnd ∷ []) (n - 1) TooLong
+
+-- what holds of every row: the one place that goes through the table
+row : (r : Refusal) → (named (numberOf r) ≡ r) × (0 < numberOf r) × (numberOf r < 32)
+unfolding named
+row TooLong = (refl, omega arith, omega arith)
+row Cut = (refl, omega arith, omega arith)
+row Leftover = (refl, omega arith, omega arith)
+row Kind = (refl, omega arith, omega arith)
+row Length = (refl, omega arith, omega arith)
+row Range = (refl, omega arith, omega arith)
+row Number = (refl, omega arith, omega arith)
+row Still = (refl, omega arith, omega arith)
+row NotPh = (refl, omega arith, omega arith)
+row NoPreimage = (refl, omega arith, omega arith)
+row Root = (refl, omega arith, omega arith)
+row Room = (refl, omega arith, omega arith)
+row Thirds = (refl, omega arith, omega arith)
+row DeadEnd = (refl, omega arith, omega arith)
+
 pub number-positive : (r : Refusal) → 0 < numberOf r
-number-positive TooLong = omega arith
-number-positive Cut = omega arith
-number-positive Leftover = omega arith
-number-positive Kind = omega arith
-number-positive Length = omega arith
-number-positive Range = omega arith
-number-positive Number = omega arith
-number-positive Still = omega arith
-number-positive NotPh = omega arith
-number-positive NoPreimage = omega arith
-number-positive Root = omega arith
-number-positive Room = omega arith
-number-positive Thirds = omega arith
-number-positive DeadEnd = omega arith
+number-positive r = row r .1
 
 pub number-some : (r : Refusal) → numberOf r ≡ 0 → ⊥
 number-some r e = omega (arith, number-positive r)
 
--- the table's row of a number; of any other number some refusal
-named : ℕ → Refusal
-named n =
-    getD (TooLong ∷ TooLong ∷ Cut ∷ Leftover ∷ Kind ∷ Length ∷ Range ∷ Number ∷ Still ∷ NotPh ∷ NoPreimage ∷ Root ∷ Room ∷ Thirds ∷ DeadEnd ∷ []) n TooLong
-
-named-number : (r : Refusal) → named (numberOf r) ≡ r
-unfolding named
-named-number TooLong = refl
-named-number Cut = refl
-named-number Leftover = refl
-named-number Kind = refl
-named-number Length = refl
-named-number Range = refl
-named-number Number = refl
-named-number Still = refl
-named-number NotPh = refl
-named-number NoPreimage = refl
-named-number Root = refl
-named-number Room = refl
-named-number Thirds = refl
-named-number DeadEnd = refl
+pub number-small : (r : Refusal) → numberOf r < 32
+number-small r = row r .2
 
 pub number-once : (r s : Refusal) → numberOf r ≡ numberOf s → r ≡ s
-number-once r s e = sym (named-number r) ∙ ap named e ∙ named-number s
+number-once r s e = sym (row r .0) ∙ ap named e ∙ row s .0
 
 pub first-once : (cs : List Cause) (m n : ℕ) → First cs m → First cs n → m ≡ n
 first-once [] m n p q = p ∙ sym q

@@ -25,21 +25,23 @@ use Rattle.root.specs.Roots.{quartic}
 use Rattle.root.specs.Pairs.{quadratic}
 use Rattle.curve.specs.declared.Curve.{Curve}
 use Rattle.curve.specs.declared.Curve.the-variants as curves
-use Rattle.curve.specs.declared.Preimage.{Preimage}
-use Rattle.curve.specs.declared.Verdict.the-variants as verdicts
+use Rattle.verdict.specs.declared.Preimage.{Preimage}
+use Rattle.verdict.specs.declared.Verdict.the-variants as verdicts
 use Rattle.curve.specs.Curves.{pointsOf, InRange, differences, powers, powerForm, legPolynomial, squaredLength}
-use Rattle.curve.specs.Verdicts.{SquareOf}
-use Rattle.curve.specs.Promise.{out-of-range, Recognised}
+use Rattle.verdict.specs.Verdicts.{SquareOf}
+use Rattle.curve.specs.Promise.{out-of-range}
+use Rattle.verdict.specs.Promise.{Recognised}
 use Rattle.sheet.specs.declared.Reading.the-variants as reading
-use Rattle.sheet.specs.Choice.{if_then_else_}
-use Rattle.sheet.specs.Numbers.{signed, coordinates}
-use Rattle.sheet.specs.Kinds.{kindOf, numbersOf, formed}
-use Rattle.sheet.specs.Steps.{erasedStep, named, allWithin, sizedStep, kindStep, stepOf}
-use Rattle.sheet.specs.Sheets.{Answer, given, recordsFrom, outcome, pointsIn, with-given}
-use Rattle.sheet.specs.Promises.{Reads}
-use Rattle.sheet.proofs.Formed.{range-is}
-use Rattle.report_text.specs.Texts.{bytes, digitsOf, firstLine, lineText}
-use Rattle.report_text.specs.Reports.{Line, ReportOf, Report}
+use Rattle.refusal.specs.Answers.{Answer, given, with-given, if_then_else_}
+use Rattle.record.specs.Numbers.{signed, coordinates}
+use Rattle.record.specs.Kinds.{words, numbersOf, recordOf, pointsIn}
+use Rattle.record.specs.Steps.{erasedStep, named, kindIn, allWithin, sizedStep, stepOf}
+use Rattle.record.proofs.Formed.{range-is}
+use Rattle.sheet.specs.Survey.{surveyFrom, survey, outcome}
+use Rattle.sheet.specs.Promise.{countOf, Reads}
+use Rattle.text.specs.Texts.{bytes, digitsOf}
+use Rattle.report_text.specs.Texts.{firstLine, lineText}
+use Rattle.report_text.specs.Promise.{Line, ReportOf, Report}
 
 abbrev point : Pair
 point = pair (negsuc 0) (negsuc 0)
@@ -68,7 +70,7 @@ line = record {
 }
 
 abbrev sheet : List ℕ
-sheet = formed (kindOf quintic) (numbersOf (pointsOf quintic)) ++ formed (kindOf cubic) (numbersOf (pointsOf cubic)) ++ replicate 10 255
+sheet = recordOf quintic ++ recordOf cubic ++ replicate 10 255
 
 abbrev text : List ℕ
 text = bytes "sheet 2\n1 C5 pre c=1 len=60/12\n2 C3 still\n"
@@ -82,16 +84,16 @@ sample-text = refl
 
 -- ---- what the sheet holds
 
-sample-count : with-given length (outcome sheet) ≡ given 2
-unfolding outcome recordsFrom stepOf erasedStep kindStep sizedStep named allWithin coordinates signed if_then_else_
+sample-count : with-given countOf (outcome sheet) ≡ given 2
+unfolding survey surveyFrom stepOf erasedStep kindIn sizedStep named words allWithin coordinates signed if_then_else_
 sample-count = refl
 
 first-read : Reads sheet 1 (reading.Points quintic)
-unfolding pointsIn outcome recordsFrom stepOf erasedStep kindStep sizedStep named allWithin coordinates signed if_then_else_
+unfolding pointsIn survey surveyFrom stepOf erasedStep kindIn sizedStep named words allWithin coordinates signed if_then_else_
 first-read = refl
 
 second-read : Reads sheet 2 (reading.Points cubic)
-unfolding pointsIn outcome recordsFrom stepOf erasedStep kindStep sizedStep named allWithin coordinates signed if_then_else_
+unfolding pointsIn survey surveyFrom stepOf erasedStep kindIn sizedStep named words allWithin coordinates signed if_then_else_
 second-read = refl
 
 -- ---- the verdicts
@@ -150,9 +152,9 @@ quintic-square = record {
 }
 
 quintic-recognised : Recognised (pointsOf quintic) (verdicts.Pre line)
-quintic-recognised = record {
-  refusal = passed (pointsOf quintic) (range-is (pointsOf quintic) .0 quintic-near);
-  verdict = λ _. (
+quintic-recognised = (
+  passed (pointsOf quintic) (range-is (pointsOf quintic) .0 quintic-near),
+  (
     λ z. let e : pos 1 ≡ pos 0 = ap (λ (p : Pair). p .re) (sym (ap (λ (p : List Pair). at pairs p 0) quintic-legs) ∙ z 0) in omega linear,
     record {
       generated = λ k. ap (λ (p : List Pair). at pairs p k) quintic-generated;
@@ -161,18 +163,18 @@ quintic-recognised = record {
       lead = record { power = 0; positive = inl (omega linear); above = above-none pairs (quadratic (line .w)) (zeros pairs 2) };
       square-of = quintic-square;
     },
-  );
-}
+  ),
+)
 
 cubic-legs : legPolynomial (pointsOf cubic) ≡ replicate 3 none
 unfolding legPolynomial powerForm powers differences choose
 cubic-legs = refl
 
 cubic-recognised : Recognised (pointsOf cubic) verdicts.Still
-cubic-recognised = record {
-  refusal = passed (pointsOf cubic) (range-is (pointsOf cubic) .0 cubic-near);
-  verdict = λ _ k. ap (λ (p : List Pair). at pairs p k) cubic-legs ∙ zeros pairs 3 k;
-}
+cubic-recognised = (
+  passed (pointsOf cubic) (range-is (pointsOf cubic) .0 cubic-near),
+  λ k. ap (λ (p : List Pair). at pairs p k) cubic-legs ∙ zeros pairs 3 k,
+)
 
 -- ---- the report
 

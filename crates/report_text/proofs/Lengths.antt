@@ -1,15 +1,13 @@
--- The numbers of a length are not negative, so they are written without a sign.
+-- The numbers of a length: small, and not negative.
 --   root-small           q's coefficients are small enough for `length_by`
 --   length-nonneg        A is not negative: for a quintic 3 A is the sum of 5 (6 b0 + 3 b1 + 2 b2)², 15 (b1 + b2)² and b2², over both parts of w
 --   denominator-nonneg   nor is B
---   length-answered      `length_by` does not refuse
 use mathlib.Core.Path.{_≡_, refl, sym, subst, fun-ext}
 use mathlib.Core.List.{List, [], _∷_}
 use Prim.Native.Nat.{ℕ}
 use native.Mathlib.Omega.{arith}
 use lib.IntN.{ℤ, pos, _+ℤ_, _*ℤ_}
 use lib.Signed.{_≤ℤ_}
-use Rattle.refusal.specs.declared.Refusal.{Refusal}
 use Rattle.whole.specs.Poly.{at}
 use Rattle.whole.specs.Number.{wholes}
 use Rattle.whole.proofs.Wholes.{atomsℤ, readℤ, read-pos, ringℤ, equal-by, zero-equal, zero-times, zero-plus}
@@ -25,14 +23,14 @@ use Rattle.root.specs.Pairs.{quadratic}
 use Rattle.root.specs.Search.{Each}
 use Rattle.curve.specs.declared.Curve.{Curve}
 use Rattle.curve.specs.declared.Curve.the-variants.{Cubic, Quintic}
-use Rattle.curve.specs.declared.Preimage.{Preimage}
+use Rattle.verdict.specs.declared.Preimage.{Preimage}
 use Rattle.curve.specs.Curves.{pointsOf, InRange, legPolynomial, squaredLength}
-use Rattle.curve.specs.Verdicts.{PreimageOf}
+use Rattle.verdict.specs.Verdicts.{PreimageOf}
 use Rattle.curve.proofs.LegPolynomial.{pointsOf-length, legPolynomial-above}
-use Rattle.curve.proofs.Lengths.{re-of, im-of, at-squaredLength, squared-above}
-use Rattle.curve.proofs.Once.{preimage-norms}
-use Rattle.curve.proofs.Sizes.{root-within}
-use Rattle.measure.specs.declared.LengthAnswer.the-variants as lengths
+use Rattle.curve.proofs.Lengths.{re-of, im-of, at-squaredLength}
+use Rattle.verdict.proofs.Multiples.{squared-above}
+use Rattle.verdict.proofs.Once.{preimage-norms}
+use Rattle.verdict.proofs.RootSizes.{root-within}
 use Rattle.measure.specs.Lengths.{cubicA, lengthA, lengthB}
 
 pub root-small : (curve : Curve) (p : Preimage) → InRange (pointsOf curve) → PreimageOf (legPolynomial (pointsOf curve)) p → Each wholes Small (quartic (p .square .q))
@@ -103,6 +101,3 @@ length-nonneg (Quintic c) p h = sixty-nonneg _ p h
 pub denominator-nonneg : (curve : Curve) → pos 0 ≤ℤ lengthB curve
 denominator-nonneg (Cubic c) = omega linear
 denominator-nonneg (Quintic c) = omega linear
-
-pub length-answered : {r : Refusal} {c a b : ℤ} → lengths.Refused r ≡ lengths.Length c a b → ⊥
-length-answered e = let z : _≡_ {A = ℕ} 0 1 = cc in omega arith

@@ -1,9 +1,7 @@
--- Theorems: texts and digits, what sheets and lengths tell, the promise and its one answer, how long a report is, the document's sample.
-pub mod Pieces
-pub mod Decimals
+-- Theorems: what sheets and lengths tell, the lines, the one answer, how long a report is, the document's sample.
+pub mod Lined
 pub mod OfSheet
 pub mod Lengths
-pub mod Reported
 pub mod Once
 pub mod Short
 pub mod Examples

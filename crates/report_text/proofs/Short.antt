@@ -4,7 +4,7 @@
 --   report-short                  a report has at most 5,321 bytes
 --   room-enough                   so an area of that length is not refused, and
 --   written-short                 no more bytes are written
-use mathlib.Core.Path.{_≡_, refl, sym, ap, _∙_}
+use mathlib.Core.Path.{_≡_, refl, ap, subst}
 use mathlib.Core.List.{List, _++_}
 use Prim.Native.Nat.{ℕ, zero, suc, _*_, _^_, _≤_, _<_}
 use native.Mathlib.Nat.{mul-le-mul, mul-le-mul-left}
@@ -13,6 +13,9 @@ use lib.IntN.{ℤ, pos, negsuc, natAbs}
 use lib.ListN.{length, length-append}
 use lib.Signed.{_≤ℤ_}
 use Rattle.refusal.specs.declared.Refusal.{Refusal}
+use Rattle.refusal.specs.Table.{numberOf}
+use Rattle.refusal.specs.Answers.{Answer, refused, given, with-given}
+use Rattle.refusal.proofs.Laws.{number-small}
 use Rattle.whole.specs.Poly.{at}
 use Rattle.whole.specs.Number.{wholes, Within}
 use Rattle.whole.proofs.Wholes.{readℤ, read-pos}
@@ -23,27 +26,27 @@ use Rattle.root.specs.Roots.{quartic, Small}
 use Rattle.root.specs.Search.{Each}
 use Rattle.curve.specs.declared.Curve.{Curve}
 use Rattle.curve.specs.declared.Curve.the-variants.{Cubic, Quintic}
-use Rattle.curve.specs.declared.Square.{Square}
-use Rattle.curve.specs.declared.Verdict.{Verdict}
-use Rattle.curve.specs.declared.Verdict.the-variants as verdict
+use Rattle.verdict.specs.declared.Square.{Square}
+use Rattle.verdict.specs.declared.Verdict.{Verdict}
+use Rattle.verdict.specs.declared.Verdict.the-variants as verdict
 use Rattle.curve.specs.Curves.{pointsOf, InRange, legPolynomial}
-use Rattle.curve.specs.Verdicts.{SquareOf}
-use Rattle.curve.specs.Promise.{Recognised}
+use Rattle.verdict.specs.Verdicts.{SquareOf}
+use Rattle.verdict.specs.Promise.{Recognised}
 use Rattle.curve.proofs.LegPolynomial.{pointsOf-length}
-use Rattle.curve.proofs.Sizes.{root-size}
+use Rattle.verdict.proofs.RootSizes.{root-size}
 use Rattle.measure.specs.Lengths.{lengthA, lengthB}
-use Rattle.sheet.specs.Sheets.{Answer, refused, given, with-given, outcome}
-use Rattle.sheet.proofs.Answers.{no-answer}
-use Rattle.sheet.proofs.Choose.{by-test}
-use Rattle.sheet.proofs.Outcomes.{Records, reads}
-use Rattle.sheet.proofs.Faults.{curves-few, fault-small}
-use Rattle.report_text.specs.declared.ReportAnswer.the-variants as report
-use Rattle.report_text.specs.Texts.{signed, labelled, bytes, decimal, firstLine, kindText, verdictText}
-use Rattle.report_text.specs.Reports.{Line, Lines, ReportOf, Report, asked, Reported}
-use Rattle.report_text.proofs.Decimals.{decimal-few}
+use Rattle.sheet.specs.Survey.{Entry, outcome}
+use Rattle.sheet.specs.Promise.{countOf}
+use Rattle.sheet.proofs.Surveys.{sound-of}
+use Rattle.sheet.proofs.Faults.{curves-few, fault-near}
+use Rattle.text.specs.Texts.{signed, labelled, bytes, decimal}
+use Rattle.text.specs.declared.TextAnswer.the-variants as text
+use Rattle.text.proofs.Decimals.{decimal-few}
+use Rattle.text.proofs.Held.{asked-written, room-enough as enough}
+use Rattle.report_text.specs.Texts.{firstLine, kindText, verdictText}
+use Rattle.report_text.specs.Promise.{Line, Lines, ReportOf, Report, Reported}
 use Rattle.report_text.proofs.Lengths.{root-small, length-nonneg}
 use Rattle.report_text.proofs.OfSheet.{read-in-range}
-use Rattle.report_text.proofs.Reported.{asked-fits}
 
 -- ---- the numbers
 
@@ -81,10 +84,10 @@ verdict-short : (curve : Curve) (v : Verdict) → InRange (pointsOf curve) → R
 verdict-short curve verdict.Still r h = omega arith
 verdict-short curve verdict.No r h = omega arith
 verdict-short curve (verdict.Ph s) r h =
-    let k = h .verdict refl .1 in
+    let k = h .1 .1 in
     omega (arith, signed-few 14 (s .c) (omega (linear, k .positive)) (content-small curve s r k), length-append (bytes "ph c=") (signed (s .c)))
 verdict-short curve (verdict.Pre p) r h =
-    let k = h .verdict refl .1 in
+    let k = h .1 .1 in
     let a = lengthA curve (p .square .q) in
     let front = labelled "pre c=" (p .square .c) in
     let middle = labelled " len=" a in
@@ -130,40 +133,35 @@ lines-short s (suc n) t (e, l, h, k, is) m =
 pub report-short : (s t : List ℕ) → Report s t → length t ≤ 5321
 report-short s t = by (outcome s) refl
   where
-    by : (a : Records) → outcome s ≡ a → ReportOf s (with-given length a) t → length t ≤ 5321
-    by (refused n p) o h =
-        let front = labelled "refused " (pos n) in
-        let back = labelled " at " (pos p) in
-        let m = fault-small s n p o in
+    by : (a : Answer (List Entry)) → outcome s ≡ a → ReportOf s (with-given countOf a) t → length t ≤ 5321
+    by (refused f) o h =
+        let front = labelled "refused " (pos (numberOf (f .refusal))) in
+        let back = labelled " at " (pos (f .place)) in
         omega (
           arith,
           ap length h,
           length-append (front ++ back) (bytes "\n"),
           length-append front back,
-          length-append (bytes "refused ") (decimal n),
-          length-append (bytes " at ") (decimal p),
-          decimal-few 1 n (omega (arith, m .0)),
-          decimal-few 3 p (omega (arith, m .1)),
+          length-append (bytes "refused ") (decimal (numberOf (f .refusal))),
+          length-append (bytes " at ") (decimal (f .place)),
+          decimal-few 1 (numberOf (f .refusal)) (omega (arith, number-small (f .refusal))),
+          decimal-few 3 (f .place) (omega (arith, fault-near s f o)),
         )
-    by (given rs) o (l, h, is) =
-        let few = curves-few s rs o in
+    by (given es) o (l, h, is) =
+        let count = countOf es in
+        let few : count ≤ 113 = subst (λ (x : List Entry). countOf x ≤ 113) (sound-of s o .1) (curves-few s) in
         omega (
           arith,
           ap length is,
-          length-append (firstLine (length rs)) l,
-          length-append (labelled "sheet " (pos (length rs))) (bytes "\n"),
-          length-append (bytes "sheet ") (decimal (length rs)),
-          decimal-few 2 (length rs) (omega arith),
-          lines-short s (length rs) l h (omega arith),
+          length-append (firstLine count) l,
+          length-append (labelled "sheet " (pos count)) (bytes "\n"),
+          length-append (bytes "sheet ") (decimal count),
+          decimal-few 2 count (omega arith),
+          lines-short s count l h (omega arith),
         )
 
-pub room-enough : (s before after : List ℕ) (r : Refusal) → 5321 ≤ length before → Reported s before after (report.Refused r) → ⊥
-room-enough s before after r l h = no-answer (sym (h .says ∙ asked-fits (length before) (h .text) (omega (arith, report-short s (h .text) (h .of-sheet)))))
+pub room-enough : (s before after : List ℕ) (r : Refusal) → 5321 ≤ length before → Reported s before after (text.Refused r) → ⊥
+room-enough s = enough 5321 (report-short s)
 
-asked-written : (room : ℕ) (text : List ℕ) (n : ℕ) → given n ≡ asked room text → n ≡ length text
-unfolding asked
-asked-written room text n = by-test (λ (a : Answer ℕ). given n ≡ a → n ≡ length text) _ (λ _ e. no-answer e) (λ _ e. cc)
-
-pub written-short : (s before after : List ℕ) (n : ℕ) → Reported s before after (report.Written n) → n ≤ 5321
-written-short s before after n h =
-    omega (arith, asked-written (length before) (h .text) n (h .says), report-short s (h .text) (h .of-sheet))
+pub written-short : (s before after : List ℕ) (n : ℕ) → Reported s before after (text.Written n) → n ≤ 5321
+written-short s before after n h = omega (arith, asked-written (length before) (h .text) n (h .says), report-short s (h .text) (h .is))

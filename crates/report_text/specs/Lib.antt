@@ -1,4 +1,4 @@
--- The definitions that the contract cites: the text, the report; `Steps` is for the parts of the program only.
+-- The definitions that the contract cites: the text of a report, and the promise; `Steps` is for the parts of the program only.
 pub mod Texts
-pub mod Reports
+pub mod Promise
 pub mod Steps

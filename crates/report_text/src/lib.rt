@@ -1,54 +1,59 @@
 // The report of a parameter sheet, as text in a lent byte area.
-mod areas;
 mod lines;
 
-use areas::Place;
-use areas::clear;
-use areas::put;
-use areas::put_labelled;
 use lines::put_lines;
-use refusal::Refusal;
+use refusal::Fault;
+use refusal::number;
 use sheet::Checked;
-ghost use Rattle.report_text.specs.Reports.{Reported};
-ghost use Rattle.report_text.specs.Steps.{HoldsReport};
+use text::Place;
+use text::TextAnswer;
+use text::ended;
+use text::put;
+use text::put_labelled;
+ghost use mathlib.Core.Path.{_≡_};
+ghost use Rattle.refusal.specs.Answers.{given, with-given};
+ghost use Rattle.sheet.specs.Survey.{outcome};
+ghost use Rattle.text.specs.declared.Place.the-variants.{At};
+ghost use Rattle.sheet.specs.Promise.{countOf};
+ghost use Rattle.text.specs.Steps.{Writes};
+ghost use Rattle.report_text.specs.Texts.{refusedLine};
+ghost use Rattle.report_text.specs.Promise.{Reported};
+ghost use Rattle.report_text.specs.Steps.{WritesReport};
 
-// How many bytes were written, or that the area is too short.
-pub enum ReportAnswer {
-    Written(usize),
-    Refused(Refusal),
+// The report of a sound sheet, which has so many curves.
+fn put_sound(area: &mut [u8], place: Place, sheet: &[u8], count: usize) -> Place
+    requires { ⌜ with-given countOf (outcome (now sheet)) ≡ given count ⌝ }
+    ensures { λ r. ⌜ WritesReport (now (area .entry)) place (now (sheet .entry)) (given count) (now (area .exit)) r ⌝ }
+{
+    let end = put_labelled(area, place, b"sheet ", count as u64);
+    let line = put(area, end, b"\n");
+    put_lines(area, line, sheet, count)
+}
+
+// The report of a faulty sheet, of which nothing but the fault is said.
+fn put_refused(area: &mut [u8], place: Place, f: Fault) -> Place
+    ensures { λ r. ⌜ Writes (now (area .entry)) place (refusedLine f) (now (area .exit)) r ⌝ }
+{
+    let refusal = f.refusal;
+    let at = put_labelled(area, place, b"refused ", number(refusal) as u64);
+    let end = put_labelled(area, at, b" at ", f.place as u64);
+    put(area, end, b"\n")
 }
 
 // The report from the area's first byte on, as far as it fits.
 fn put_report(area: &mut [u8], sheet: &[u8]) -> Place
-    ensures { λ r. ⌜ HoldsReport (now (sheet .entry)) (now (area .exit)) r ⌝ }
+    ensures { λ r. ⌜ WritesReport (now (area .entry)) (At 0) (now (sheet .entry)) (with-given countOf (outcome (now (sheet .entry)))) (now (area .exit)) r ⌝ }
 {
     match sheet::check(sheet) {
-        Checked::Curves(count) => {
-            let end = put_labelled(area, Place::At(0), b"sheet ", count as u64);
-            let line = put(area, end, b"\n");
-            put_lines(area, line, sheet, count)
-        }
-        Checked::Refused(r, place) => {
-            let number = refusal::number(r);
-            let at = put_labelled(area, Place::At(0), b"refused ", number as u64);
-            let end = put_labelled(area, at, b" at ", place as u64);
-            put(area, end, b"\n")
-        }
+        Checked::Curves(count) => put_sound(area, Place::At(0), sheet, count),
+        Checked::Refused(f) => put_refused(area, Place::At(0), f),
     }
 }
 
 // Writes the report of a sheet into the area. An area that is too short is cleared.
-pub fn write_report(sheet: &[u8], area: &mut [u8]) -> ReportAnswer
+pub fn write_report(sheet: &[u8], area: &mut [u8]) -> TextAnswer
     ensures { λ r. ⌜ Reported (now (sheet .entry)) (now (area .entry)) (now (area .exit)) r ⌝ }
 {
-    match put_report(area, sheet) {
-        Place::At(end) => {
-            clear(&mut area[end..]);
-            ReportAnswer::Written(end)
-        }
-        Place::Full => {
-            clear(area);
-            ReportAnswer::Refused(Refusal::Room)
-        }
-    }
+    let end = put_report(area, sheet);
+    ended(area, end)
 }

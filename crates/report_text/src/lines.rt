@@ -1,32 +1,35 @@
 // The lines of a sheet's curves.
 ghost use mathlib.Core.Path.{_≡_};
-ghost use lib.ListN.{length};
-ghost use Rattle.curve.specs.declared.Verdict.the-variants as verdicts;
+ghost use Rattle.refusal.specs.Answers.{given, with-given};
 ghost use Rattle.curve.specs.Curves.{pointsOf, InRange, legPolynomial};
-ghost use Rattle.curve.specs.Verdicts.{PreimageOf};
-ghost use Rattle.sheet.specs.Sheets.{given, with-given, outcome};
+ghost use Rattle.verdict.specs.declared.Verdict.the-variants as verdicts;
+ghost use Rattle.verdict.specs.Verdicts.{PreimageOf};
+ghost use Rattle.sheet.specs.Survey.{outcome};
+ghost use Rattle.sheet.specs.Promise.{countOf};
+ghost use Rattle.text.specs.Steps.{Writes};
 ghost use Rattle.report_text.specs.Texts.{kindText, verdictText, lineText};
-ghost use Rattle.report_text.specs.Steps.{Writes, WritesJudged, WritesLines};
-use crate::areas::Place;
-use crate::areas::put;
-use crate::areas::put_labelled;
-use crate::areas::put_number;
+ghost use Rattle.report_text.specs.Steps.{WritesJudged, WritesLines};
 use curve::Curve;
-use curve::Preimage;
-use curve::Verdict;
-use curve::recognise;
-use measure::LengthAnswer;
 use measure::length_by;
-use sheet::read_at;
-use whole::size;
+use record::Held;
+use record::held_curve;
+use record::kind_of;
+use record::row_of;
+use text::Place;
+use text::put;
+use text::put_number;
+use text::put_signed;
+use verdict::Preimage;
+use verdict::Verdict;
+use verdict::recognise;
 
 fn put_kind(area: &mut [u8], place: Place, curve: Curve) -> Place
     ensures { λ r. ⌜ Writes (now (area .entry)) place (kindText curve) (now (area .exit)) r ⌝ }
 {
-    match curve {
-        Curve::Cubic(_) => put(area, place, b" C3 "),
-        Curve::Quintic(_) => put(area, place, b" C5 "),
-    }
+    let row = row_of(kind_of(curve));
+    let name = put(area, place, b" ");
+    let blank = put(area, name, &row.name);
+    put(area, blank, b" ")
 }
 
 // The verdict pre, with c and the length A/B.
@@ -34,13 +37,10 @@ fn put_preimage(area: &mut [u8], place: Place, curve: Curve, p: Preimage) -> Pla
     requires { ⌜ InRange (pointsOf curve) × PreimageOf (legPolynomial (pointsOf curve)) p ⌝ }
     ensures { λ r. ⌜ Writes (now (area .entry)) place (verdictText curve (verdicts.Pre p)) (now (area .exit)) r ⌝ }
 {
-    let LengthAnswer::Length { c, a, b } = length_by(curve, p.square) else {
-        // A pre-image has a length.
-        return place;
-    };
-    let length = put_labelled(area, place, b"pre c=", size(c));
-    let over = put_labelled(area, length, b" len=", size(a));
-    put_labelled(area, over, b"/", size(b))
+    let length = length_by(curve, p.square);
+    let a = put_signed(area, place, b"pre c=", length.c);
+    let b = put_signed(area, a, b" len=", length.a);
+    put_signed(area, b, b"/", length.b)
 }
 
 fn put_verdict(area: &mut [u8], place: Place, curve: Curve) -> Place
@@ -50,7 +50,7 @@ fn put_verdict(area: &mut [u8], place: Place, curve: Curve) -> Place
     match recognise(curve) {
         Verdict::Still => put(area, place, b"still"),
         Verdict::No => put(area, place, b"no"),
-        Verdict::Ph(s) => put_labelled(area, place, b"ph c=", size(s.c)),
+        Verdict::Ph(s) => put_signed(area, place, b"ph c=", s.c),
         Verdict::Pre(p) => put_preimage(area, place, curve, p),
         // A curve in range is not refused.
         Verdict::Refused(_) => place,
@@ -61,24 +61,26 @@ fn put_line(area: &mut [u8], place: Place, number: usize, curve: Curve) -> Place
     requires { ⌜ InRange (pointsOf curve) ⌝ }
     ensures { λ r. ⌜ WritesJudged (now (area .entry)) place curve (lineText number curve) (now (area .exit)) r ⌝ }
 {
-    let digits = put_number(area, place, number as u64);
-    let kind = put_kind(area, digits, curve);
-    let verdict = put_verdict(area, kind, curve);
-    put(area, verdict, b"\n")
+    let kind = put_number(area, place, number as u64);
+    let verdict = put_kind(area, kind, curve);
+    let end = put_verdict(area, verdict, curve);
+    put(area, end, b"\n")
 }
 
 // The lines of a sound sheet's curves, of which there are `count`, in one pass from record to record.
 pub(crate) fn put_lines(area: &mut [u8], place: Place, sheet: &[u8], count: usize) -> Place
-    requires { ⌜ with-given length (outcome (now sheet)) ≡ given count ⌝ }
+    requires { ⌜ with-given countOf (outcome (now sheet)) ≡ given count ⌝ }
     ensures { λ r. ⌜ WritesLines (now (area .entry)) place (now (sheet .entry)) count (now (area .exit)) r ⌝ }
 {
     let mut at = place;
     let mut next: usize = 0;
     let mut k: usize = 0;
     while k < count {
-        let record = read_at(sheet, next);
-        let curve = record.curve;
-        next = record.end;
+        let Held::Curve { curve, size } = held_curve(&sheet[next..]) else {
+            // So many records follow one another.
+            return at;
+        };
+        next += size;
         k += 1;
         at = put_line(area, at, k, curve);
     }

@@ -1,49 +1,58 @@
 -- Sheets that are known without reading them.
+--   laid             the records of curves, one behind another from a place on
 --   AllInRange, AllMinusOne, AllMinusOnes   what is asked of the curves
---   written-sheet    curves in range, one after another, and an erased tail: the sheet lists just these
+--   written-sheet    curves in range, one after another, and an erased tail: the sheet has just these
 --   erased-sheet     an erased sheet of any allowed length has no curves
 --   minus-bytes      points that are all (−1, −1) are bytes FF and nothing else, and yet
---   minus-ones       a sheet of curves with such points lists them all: erasure shows in the length only
+--   minus-ones       a sheet of curves with such points has them all: erasure shows in the length only
 --   report-sheet     the sheet of 01, "The report", computed
 use mathlib.Core.Path.{_≡_, refl, sym, ap, _∙_, subst}
-use mathlib.Core.List.{List, [], _∷_, _++_, map}
+use mathlib.Core.List.{List, [], _∷_, _++_}
 use Prim.Native.Nat.{ℕ, _+_, _≤_}
 use native.Mathlib.Omega.{arith}
 use lib.IntN.{pos, negsuc}
 use lib.ListN.{length, replicate, length-append, length-replicate, getD-replicate}
+use Rattle.refusal.specs.Answers.{given, if_then_else_}
 use Rattle.pair.specs.declared.Pair.{Pair}
 use Rattle.pair.specs.Pairs.{pair, PartsWithin}
 use Rattle.curve.specs.declared.Curve.{Curve}
-use Rattle.curve.specs.declared.Curve.the-variants as curves
+use Rattle.curve.specs.declared.Curve.the-variants as form
 use Rattle.curve.specs.Curves.{pointsOf, InRange}
-use Rattle.sheet.specs.Choice.{if_then_else_}
-use Rattle.sheet.specs.Numbers.{signed, coordinates, encoded}
-use Rattle.sheet.specs.Kinds.{numbersOf}
-use Rattle.sheet.specs.Steps.{erasedStep, named, allWithin, sizedStep, kindStep, stepOf}
-use Rattle.sheet.specs.Sheets.{given, recordsFrom, outcome, pointsIn, curvesIn}
-use Rattle.sheet.specs.declared.steps.Step.the-variants as step
-use Rattle.sheet.proofs.Shown.{erased-ends}
-use Rattle.sheet.proofs.Outcomes.{flat, AllWhole, of-sound}
-use Rattle.sheet.proofs.Formed.{recordOf, record-whole, range-is}
+use Rattle.record.specs.Numbers.{signed, coordinates, encoded}
+use Rattle.record.specs.Kinds.{words, numbersOf, recordOf, pointsIn}
+use Rattle.record.specs.Steps.{erasedStep, named, kindIn, allWithin, sizedStep, stepOf}
+use Rattle.record.specs.declared.steps.Step.the-variants as step
+use Rattle.record.proofs.Shown.{erased-ends}
+use Rattle.record.proofs.Formed.{record-whole, range-is}
+use Rattle.sheet.specs.declared.walks.Ending.the-variants.{Sound}
+use Rattle.sheet.specs.Survey.{Entry, surveyFrom, survey}
+use Rattle.sheet.specs.Promise.{curvesIn}
+use Rattle.sheet.proofs.Surveys.{flat, Listed, survey-of}
+use Rattle.sheet.proofs.Appended.{entryOf}
+
+abbrev pub laid : ℕ → List Curve → List Entry
+laid at [] = []
+laid at (c ∷ cs) = entryOf at c ∷ laid (at + length (recordOf c)) cs
 
 abbrev pub AllInRange : List Curve → Type 0
 AllInRange [] = Unit {0}
 AllInRange (c ∷ cs) = InRange (pointsOf c) × AllInRange cs
 
-all-whole : (cs : List Curve) → AllInRange cs → AllWhole (map recordOf cs)
-all-whole [] r = tt
-all-whole (c ∷ cs) r = (record-whole c (range-is (pointsOf c) .1 (r .0)), all-whole cs (r .1))
+laid-listed : (at : ℕ) (cs : List Curve) → AllInRange cs → Listed at (laid at cs)
+laid-listed at [] r = tt
+laid-listed at (c ∷ cs) r = (refl, record-whole c (range-is (pointsOf c) .1 (r .0)), laid-listed (at + length (recordOf c)) cs (r .1))
 
 replicate-ends : (n : ℕ) → stepOf (replicate n 255) ≡ step.Ends
 replicate-ends n = erased-ends (replicate n 255) (λ i l. getD-replicate n i 255 0 (omega (arith, length-replicate {A = ℕ} n 255)))
 
-pub written-sheet : (cs : List Curve) (n : ℕ) → AllInRange cs → length (flat (map recordOf cs)) + n ≤ 4096 → outcome (flat (map recordOf cs) ++ replicate n 255) ≡ given (map recordOf cs)
+pub written-sheet : (cs : List Curve) (n : ℕ) → AllInRange cs → length (flat (laid 0 cs)) + n ≤ 4096
+    → survey (flat (laid 0 cs) ++ replicate n 255) ≡ record { records = laid 0 cs; end = length (flat (laid 0 cs)); ending = Sound }
 written-sheet cs n r l =
-    of-sound (flat (map recordOf cs) ++ replicate n 255) (map recordOf cs)
-    (omega (arith, length-append (flat (map recordOf cs)) (replicate n 255), length-replicate {A = ℕ} n 255))
-    (record { tail = replicate n 255; parts = refl; all = all-whole cs r; last = replicate-ends n })
+    survey-of (flat (laid 0 cs) ++ replicate n 255) (laid 0 cs) (replicate n 255)
+    (omega (arith, length-append (flat (laid 0 cs)) (replicate n 255), length-replicate {A = ℕ} n 255))
+    refl (laid-listed 0 cs r) (replicate-ends n)
 
-pub erased-sheet : (n : ℕ) → n ≤ 4096 → outcome (replicate n 255) ≡ given []
+pub erased-sheet : (n : ℕ) → n ≤ 4096 → survey (replicate n 255) ≡ record { records = []; end = 0; ending = Sound }
 erased-sheet n l = written-sheet [] n tt (omega arith)
 
 -- ---- all points −1
@@ -74,14 +83,15 @@ minus-ranges : (cs : List Curve) → AllMinusOnes cs → AllInRange cs
 minus-ranges [] a = tt
 minus-ranges (c ∷ cs) a = (minus-range (pointsOf c) (a .0), minus-ranges cs (a .1))
 
-pub minus-ones : (cs : List Curve) (n : ℕ) → AllMinusOnes cs → length (flat (map recordOf cs)) + n ≤ 4096 → outcome (flat (map recordOf cs) ++ replicate n 255) ≡ given (map recordOf cs)
+pub minus-ones : (cs : List Curve) (n : ℕ) → AllMinusOnes cs → length (flat (laid 0 cs)) + n ≤ 4096
+    → survey (flat (laid 0 cs) ++ replicate n 255) ≡ record { records = laid 0 cs; end = length (flat (laid 0 cs)); ending = Sound }
 minus-ones cs n a = written-sheet cs n (minus-ranges cs a)
 
 -- ---- the document's sheet
 
 quintic : Curve
 quintic =
-    curves.Quintic
+    form.Quintic
     (record {
       p0 = pair (pos 0) (pos 0);
       p1 = pair (pos 1) (pos 0);
@@ -92,8 +102,8 @@ quintic =
     })
 
 cubic : Curve
-cubic = curves.Cubic (record { p0 = minusOne; p1 = minusOne; p2 = minusOne; p3 = minusOne })
+cubic = form.Cubic (record { p0 = minusOne; p1 = minusOne; p2 = minusOne; p3 = minusOne })
 
 report-sheet : curvesIn (recordOf quintic ++ (recordOf cubic ++ replicate 10 255)) ≡ given (pointsOf quintic ∷ pointsOf cubic ∷ [])
-unfolding quintic cubic curvesIn pointsIn outcome recordsFrom stepOf erasedStep kindStep sizedStep named allWithin coordinates signed if_then_else_
+unfolding quintic cubic curvesIn pointsIn survey surveyFrom stepOf erasedStep kindIn sizedStep named words allWithin coordinates signed if_then_else_
 report-sheet = refl

@@ -1,159 +1,72 @@
 -- How many curves a sheet can have, and where its faults can be.
---   curves-few, check-few   a sound sheet has at most 113 curves, and `check` counts no more
---   fault-small             a faulty sheet's number has at most two digits, its place at most four
---   check-near, read-near, locate-near, erase-near, append-near   so has the place that a call refuses with
+--   curves-few, check-few   a sheet has at most 113 curves, and `check` counts no more
+--   fault-near              a faulty sheet's fault stands within 4,096 bytes
 use mathlib.Core.Path.{_≡_, refl, sym, ap, _∙_, subst}
+use mathlib.Core.Bool.{true}
 use mathlib.Core.List.{List, [], _∷_}
-use Prim.Native.Nat.{ℕ, zero, suc, _+_, _*_, _≤_, _<_}
+use Prim.Native.Nat.{ℕ, _+_, _*_, _≤_}
 use native.Mathlib.Omega.{arith}
-use lib.ListN.{length, take, drop, length-append, length-drop}
-use Rattle.refusal.specs.declared.Refusal.{Refusal}
-use Rattle.refusal.specs.declared.Refusal.the-variants as refusal
-use Rattle.refusal.specs.Table.{numberOf}
-use Rattle.curve.specs.declared.Curve.{Curve}
-use Rattle.sheet.specs.Kinds.{Kind}
-use Rattle.sheet.specs.Steps.{stepOf}
-use Rattle.sheet.specs.Sheets.{Answer, refused, given, with-given, outcome, nth, chosen, earlier, placed, pointsIn, joined, recordsFrom, erasing, total, appendingAt, appendingTo, appending}
-use Rattle.sheet.specs.Promises.{Checks, Reads, Locates, Erases, Appends}
+use lib.ListN.{length, length-append}
+use Rattle.refusal.specs.declared.Fault.{Fault}
+use Rattle.refusal.specs.Answers.{refused}
+use Rattle.refusal.proofs.Answers.{by-test, by-order, no-answer, given-once}
+use Rattle.record.specs.declared.kinds.Kind.the-variants.{Cubic}
+use Rattle.record.specs.Kinds.{rowOf}
+use Rattle.record.specs.Steps.{stepOf}
+use Rattle.record.specs.declared.steps.Step.{Step}
+use Rattle.record.specs.declared.steps.Step.the-variants as step
+use Rattle.record.proofs.Shown.{fault-near as step-near}
+use Rattle.record.proofs.Table.{row-known}
+use Rattle.sheet.specs.declared.walks.Ending.{Ending}
+use Rattle.sheet.specs.declared.walks.Ending.the-variants.{Sound, Faulty}
 use Rattle.sheet.specs.declared.Checked.the-variants as checked
-use Rattle.sheet.specs.declared.Reading.the-variants as reading
-use Rattle.sheet.specs.declared.Location.the-variants as location
-use Rattle.sheet.specs.declared.Change.the-variants as change
-use Rattle.sheet.specs.declared.steps.Step.{Step}
-use Rattle.sheet.specs.declared.steps.Step.the-variants as step
-use Rattle.sheet.proofs.Answers.{no-answer, refused-back}
-use Rattle.sheet.proofs.Choose.{by-test, by-order}
-use Rattle.sheet.proofs.Shown.{Known, cubic, quintic, fault-near, step-whole}
-use Rattle.sheet.proofs.Outcomes.{flat, AllWhole, sound-of, outcome-long, outcome-short, reads}
+use Rattle.sheet.specs.Survey.{Entry, Survey, survey, outcome, curves}
+use Rattle.sheet.specs.Promise.{Checks}
+use Rattle.sheet.proofs.Surveys.{flat, Listed, Ended, survey-long, faulty-of, faulty-once, sheet-parts}
 
 -- ---- how many
 
-known-long : {k : Kind} → Known k → 36 ≤ k .size
-known-long cubic = omega arith
-known-long quintic = omega arith
+flat-long : (at : ℕ) (es : List Entry) → Listed at es → rowOf Cubic .size * length (curves es) ≤ length (flat es)
+flat-long at [] w = omega arith
+flat-long at (e ∷ es) w =
+    let later = flat-long (at + length (e .bytes)) es (w .2) in
+    let long = length-append (e .bytes) (flat es) in
+    by-test (λ (l : List Entry). rowOf Cubic .size * length l ≤ length (flat (e ∷ es))) (rowOf (e .kind) .curve)
+    (λ c. omega (arith, w .1 .long, row-known (e .kind) .curve-long c))
+    (λ _. omega arith)
 
-flat-long : (rs : List (List ℕ)) → AllWhole rs → 36 * length rs ≤ length (flat rs)
-flat-long [] w = omega arith
-flat-long (x ∷ rs) w = omega (arith, flat-long rs (w .1), length-append x (flat rs), w .0 .long, known-long (w .0 .known))
-
-pub curves-few : (s : List ℕ) (rs : List (List ℕ)) → outcome s ≡ given rs → length rs ≤ 113
-curves-few s rs o =
-    let h = sound-of s rs o in
-    omega (arith, h .0, ap length (h .1 .parts), length-append (flat rs) (h .1 .tail), flat-long rs (h .1 .all))
+pub curves-few : (s : List ℕ) → length (curves (survey s .records)) ≤ 113
+curves-few s =
+    by-order (length s) 4096
+    (λ l.
+    let p = sheet-parts s l in
+    omega (arith, ap length (p .parts), length-append (flat (survey s .records)) (p .tail), flat-long 0 (survey s .records) (p .listed)))
+    (λ l. omega (arith, ap (λ (v : Survey). length (curves (v .records))) (survey-long s l)))
 
 pub check-few : (s : List ℕ) (n : ℕ) → Checks s (checked.Curves n) → n ≤ 113
-check-few s n = by (outcome s) refl
+check-few s n = by (survey s .ending) refl
   where
-    by : (a : Answer (List (List ℕ))) → outcome s ≡ a → given n ≡ with-given length a → n ≤ 113
-    by (refused m p) o e = no-answer e
-    by (given rs) o e = let many : n ≡ length rs = cc in omega (arith, curves-few s rs o)
+    by : (how : Ending) → survey s .ending ≡ how → Checks s (checked.Curves n) → n ≤ 113
+    by Sound q h = let e : n ≡ length (curves (survey s .records)) = given-once (rw q at h) in omega (arith, curves-few s)
+    by (Faulty f) q h = no-answer (rw q at h)
 
 -- ---- faults
 
-number-small : (r : Refusal) → numberOf r < 100
-number-small refusal.TooLong = omega arith
-number-small refusal.Cut = omega arith
-number-small refusal.Leftover = omega arith
-number-small refusal.Kind = omega arith
-number-small refusal.Length = omega arith
-number-small refusal.Range = omega arith
-number-small refusal.Number = omega arith
-number-small refusal.Still = omega arith
-number-small refusal.NotPh = omega arith
-number-small refusal.NoPreimage = omega arith
-number-small refusal.Root = omega arith
-number-small refusal.Room = omega arith
-number-small refusal.Thirds = omega arith
-number-small refusal.DeadEnd = omega arith
-
-records-fault : (most at : ℕ) (rest : List ℕ) (n p : ℕ) → recordsFrom most at rest ≡ refused n p → (n < 100) × (p ≤ at + length rest)
-unfolding recordsFrom
-records-fault zero at rest n p e = no-answer e
-records-fault (suc most) at rest n p e = by (stepOf rest) refl (λ a t. records-fault most a t n p) e
-  where
-    by :
-        (x : Step) → stepOf rest ≡ x → ((a : ℕ) (t : List ℕ) → recordsFrom most a t ≡ refused n p → (n < 100) × (p ≤ a + length t)) →
-        joined at rest (λ size. recordsFrom most (at + size) (drop size rest)) x ≡ refused n p → (n < 100) × (p ≤ at + length rest)
-    by step.Ends q f e = no-answer e
-    by (step.Fault r offset) q f e =
-        let a : numberOf r ≡ n = cc in
-        let b : at + offset ≡ p = cc in
-        (subst (λ (m : ℕ). m < 100) a (number-small r), omega (arith, fault-near rest r offset q))
-    by (step.Record size) q f e =
-        let h = f (at + size) (drop size rest) (refused-back (_∷_ (take size rest)) (recordsFrom most (at + size) (drop size rest)) e) in
-        (h .0, omega (arith, h .1, length-drop size rest, step-whole rest size q .2))
-
-pub fault-small : (s : List ℕ) (n p : ℕ) → outcome s ≡ refused n p → (n < 100) × (p < 10000)
-unfolding reads
-fault-small s n p o =
-    by-order (length s) 4096
-    (λ l. let h = records-fault (suc (length s)) 0 s n p (sym (outcome-short s l) ∙ o) in (h .0, omega (arith, h .1)))
-    (λ l.
-    let e = sym (outcome-long s l) ∙ o in
-    let a : 1 ≡ n = cc in
-    let b : 0 ≡ p = cc in
-    (omega arith, omega arith))
-
--- ---- what a call refuses with
-
--- an answer whose refusals have a place of at most four digits
-abbrev Near : {A : Type 0} → Answer A → Type 0
-Near a = (n p : ℕ) → a ≡ refused n p → p < 10000
-
-near-none : {A : Type 0} {n : ℕ} → Near {A = A} (refused n 0)
-near-none m p e = let z : 0 ≡ p = cc in omega arith
-
-near-given : {A : Type 0} (a : A) → Near (given a)
-near-given a n p e = no-answer e
-
-nth-near : (number : ℕ) (rs : List (List ℕ)) → Near (nth number rs)
-nth-near number [] = near-none
-nth-near zero (x ∷ rs) = near-none
-nth-near (suc zero) (x ∷ rs) = near-given x
-nth-near (suc (suc k)) (x ∷ rs) = nth-near (suc k) rs
+-- a fault stands within the bytes behind the records
+ended-near : (at : ℕ) (tail : List ℕ) (x : Step) (f : Fault) → stepOf tail ≡ x → Ended at x (Faulty f) → f .place ≤ at + length tail
+ended-near at tail step.Ends f q e = let z : _≡_ {A = ℕ} 0 1 = cc in absurd (omega arith)
+ended-near at tail (step.Fault r offset) f q e = omega (arith, step-near tail r offset q, ap (λ (x : Fault). x .place) (faulty-once e))
+ended-near at tail (step.Record k) f q e = absurd e
 
 module _ (s : List ℕ) where
-  outcome-near : {A : Type 0} (n p : ℕ) → outcome s ≡ refused n p → Near {A = A} (refused n p)
-  outcome-near n p o m q e = let same : p ≡ q = cc in subst (λ (x : ℕ). x < 10000) same (fault-small s n p o .1)
+  fault-place : (f : Fault) → survey s .ending ≡ Faulty f → f .place ≤ 4096
+  fault-place f e =
+      by-order (length s) 4096
+      (λ l.
+      let p = sheet-parts s l in
+      let near = ended-near (survey s .end) (p .tail) (stepOf (p .tail)) f refl (subst (λ (how : Ending). Ended (survey s .end) (stepOf (p .tail)) how) e (p .last)) in
+      omega (arith, near, p .end-is, ap length (p .parts), length-append (flat (survey s .records)) (p .tail)))
+      (λ l. omega (arith, ap (λ (x : Fault). x .place) (faulty-once (sym (ap (λ (v : Survey). v .ending) (survey-long s l)) ∙ e))))
 
-  chosen-near : (number : ℕ) → Near (chosen number (outcome s))
-  chosen-near number = by (outcome s) refl
-    where
-      by : (a : Answer (List (List ℕ))) → outcome s ≡ a → Near (chosen number a)
-      by (refused n p) o = outcome-near n p o
-      by (given rs) o = nth-near number rs
-
-  placed-near : (number : ℕ) → Near (placed number (outcome s))
-  placed-near number = by (outcome s) refl
-    where
-      by : (a : Answer (List (List ℕ))) → outcome s ≡ a → Near (placed number a)
-      by (refused n p) o = outcome-near n p o
-      by (given rs) o = λ n p e. nth-near number rs n p (refused-back (λ x. total (earlier number rs) ∷ length x ∷ []) (nth number rs) e)
-
-  erasing-near : Near (erasing s)
-  unfolding erasing
-  erasing-near = by-test Near _ (λ _. near-none) (λ _. near-given _)
-
-  appending-near : (c : Curve) → Near (appending s c)
-  unfolding appending appendingAt
-  appending-near c = by (outcome s) refl
-    where
-      by : (a : Answer (List (List ℕ))) → outcome s ≡ a → Near (appendingTo s c a)
-      by (refused n p) o = outcome-near n p o
-      by (given rs) o = by-test Near _ (λ _. near-none) (λ _. by-test Near _ (λ _. near-none) (λ _. near-given _))
-
-  module _ (r : Refusal) (place : ℕ) where
-    pub check-near : Checks s (checked.Refused r place) → place < 10000
-    check-near h = fault-small s (numberOf r) place (refused-back length (outcome s) (sym h)) .1
-
-    pub read-near : (number : ℕ) → Reads s number (reading.Refused r place) → place < 10000
-    read-near number h = chosen-near number (numberOf r) place (refused-back pointsIn (chosen number (outcome s)) (sym h))
-
-    pub locate-near : (number : ℕ) → Locates s number (location.Refused r place) → place < 10000
-    locate-near number h = placed-near number (numberOf r) place (sym h)
-
-    pub erase-near : (t : List ℕ) → Erases s t (change.Refused r place) → place < 10000
-    erase-near t h = erasing-near (numberOf r) place (sym (h .says))
-
-    pub append-near : (c : Curve) (t : List ℕ) → Appends s c t (change.Refused r place) → place < 10000
-    append-near c t h = appending-near c (numberOf r) place (sym (h .changes .says))
+  pub fault-near : (f : Fault) → outcome s ≡ refused f → f .place ≤ 4096
+  fault-near f e = fault-place f (faulty-of s e)

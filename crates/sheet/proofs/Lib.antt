@@ -1,15 +1,10 @@
 -- What the proofs share, and, in Places, Once, Laws, Faults and Examples, what other crates may cite.
-pub mod Choose
-pub mod Answers
-pub mod Signs
-pub mod Loops
-pub mod Pieces
-pub mod Shown
-pub mod Outcomes
+pub mod Surveys
+pub mod Standing
 pub mod Passed
-pub mod Chosen
 pub mod Places
-pub mod Formed
+pub mod Told
+pub mod Changed
 pub mod Appended
 pub mod Once
 pub mod Laws

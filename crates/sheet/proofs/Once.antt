@@ -1,80 +1,68 @@
 -- Each promise has one answer: what meets it twice is equal.
---   check-once, read-once, read-at-once, locate-once, find-once, erase-once, append-once   the calls
+--   check-once, read-once, locate-once, find-once, erase-once, append-once   the calls
 use mathlib.Core.Path.{_≡_, refl, sym, ap, _∙_}
 use mathlib.Core.List.{List}
 use Prim.Native.Nat.{ℕ}
+use lib.ListN.{getD}
+use Rattle.refusal.specs.Answers.{Answer}
+use Rattle.refusal.proofs.Answers.{no-answer, given-once, refused-once}
+use Rattle.pair.specs.declared.Pair.{Pair}
 use Rattle.curve.specs.declared.Curve.{Curve}
-use Rattle.curve.specs.Curves.{pointsOf}
 use Rattle.curve.proofs.Points.{curve-once}
-use Rattle.sheet.specs.Sheets.{Answer, erasing, appending}
-use Rattle.sheet.specs.Promises.{answerOfChecked, answerOfReading, answerOfLocation, answerOfChange, StandsAt, Checks, Reads, ReadsAt, Locates, Finds, Changes, Erases, Appends}
 use Rattle.sheet.specs.declared.Checked.{Checked}
 use Rattle.sheet.specs.declared.Checked.the-variants as checked
 use Rattle.sheet.specs.declared.Reading.{Reading}
 use Rattle.sheet.specs.declared.Reading.the-variants as reading
-use Rattle.sheet.specs.declared.Record.{Record}
 use Rattle.sheet.specs.declared.Location.{Location}
 use Rattle.sheet.specs.declared.Location.the-variants as location
 use Rattle.sheet.specs.declared.Change.{Change}
 use Rattle.sheet.specs.declared.Change.the-variants as change
-use Rattle.sheet.proofs.Answers.{no-answer, refusal-once}
+use Rattle.sheet.specs.Promise.{answerOfChecked, answerOfReading, answerOfLocation, answerOfChange, erasing, appending, Checks, Reads, Locates, Finds, Changes, Erases, Appends}
 
-checked-same : (r r′ : Checked) → answerOfChecked r ≡ answerOfChecked r′ → r ≡ r′
-checked-same (checked.Curves n) (checked.Curves n′) e = let q : n ≡ n′ = cc in ap checked.Curves q
-checked-same (checked.Curves n) (checked.Refused r p) e = no-answer e
-checked-same (checked.Refused r p) (checked.Curves n) e = no-answer (sym e)
-checked-same (checked.Refused r p) (checked.Refused r′ p′) e = let q = refusal-once {A = ℕ} r r′ p p′ e in λ i. checked.Refused (q .0 i) (q .1 i)
+checked-same : (r q : Checked) → answerOfChecked r ≡ answerOfChecked q → r ≡ q
+checked-same (checked.Curves m) (checked.Curves n) e = ap checked.Curves (given-once e)
+checked-same (checked.Curves m) (checked.Refused g) e = no-answer e
+checked-same (checked.Refused f) (checked.Curves n) e = no-answer (sym e)
+checked-same (checked.Refused f) (checked.Refused g) e = ap checked.Refused (refused-once {A = ℕ} e)
 
-pub check-once : (s : List ℕ) (r r′ : Checked) → Checks s r → Checks s r′ → r ≡ r′
-check-once s r r′ p q = checked-same r r′ (p ∙ sym q)
+reading-same : (r q : Reading) → answerOfReading r ≡ answerOfReading q → r ≡ q
+reading-same (reading.Points c) (reading.Points d) e = ap reading.Points (curve-once c d (given-once e))
+reading-same (reading.Points c) (reading.Refused g) e = no-answer e
+reading-same (reading.Refused f) (reading.Points d) e = no-answer (sym e)
+reading-same (reading.Refused f) (reading.Refused g) e = ap reading.Refused (refused-once {A = List Pair} e)
 
-reading-same : (r r′ : Reading) → answerOfReading r ≡ answerOfReading r′ → r ≡ r′
-reading-same (reading.Points c) (reading.Points c′) e = let q : pointsOf c ≡ pointsOf c′ = cc in ap reading.Points (curve-once c c′ q)
-reading-same (reading.Points c) (reading.Refused r p) e = no-answer e
-reading-same (reading.Refused r p) (reading.Points c) e = no-answer (sym e)
-reading-same (reading.Refused r p) (reading.Refused r′ p′) e = let q = refusal-once r r′ p p′ e in λ i. reading.Refused (q .0 i) (q .1 i)
+location-same : (r q : Location) → answerOfLocation r ≡ answerOfLocation q → r ≡ q
+location-same (location.At p n) (location.At k m) e = let both = given-once e in λ i. location.At (getD (both i) 0 0) (getD (both i) 1 0)
+location-same (location.At p n) (location.Refused g) e = no-answer e
+location-same (location.Refused f) (location.At k m) e = no-answer (sym e)
+location-same (location.Refused f) (location.Refused g) e = ap location.Refused (refused-once {A = List ℕ} e)
 
-pub read-once : (s : List ℕ) (number : ℕ) (r r′ : Reading) → Reads s number r → Reads s number r′ → r ≡ r′
-read-once s number r r′ p q = reading-same r r′ (p ∙ sym q)
-
--- where a record stands
-pub read-at-once : (s : List ℕ) (place : ℕ) (r r′ : Record) → StandsAt s place → ReadsAt s place r → ReadsAt s place r′ → r ≡ r′
-read-at-once s place r r′ (number, long, at) p q =
-    let points = p number long at in
-    let points′ = q number long at in
-    let curves : pointsOf (r .curve) ≡ pointsOf (r′ .curve) = cc (points .0 ∙ sym (points′ .0)) in
-    let curve = curve-once (r .curve) (r′ .curve) curves in
-    let end : r .end ≡ r′ .end = points .1 ∙ sym (points′ .1) in
-    λ i. record { curve = curve i; end = end i }
-
-location-same : (r r′ : Location) → answerOfLocation r ≡ answerOfLocation r′ → r ≡ r′
-location-same (location.At p n) (location.At p′ n′) e =
-    let place : p ≡ p′ = cc in
-    let long : n ≡ n′ = cc in
-    λ i. location.At (place i) (long i)
-location-same (location.At p n) (location.Refused r p′) e = no-answer e
-location-same (location.Refused r p) (location.At p′ n) e = no-answer (sym e)
-location-same (location.Refused r p) (location.Refused r′ p′) e = let q = refusal-once r r′ p p′ e in λ i. location.Refused (q .0 i) (q .1 i)
-
-pub locate-once : (s : List ℕ) (number : ℕ) (r r′ : Location) → Locates s number r → Locates s number r′ → r ≡ r′
-locate-once s number r r′ p q = location-same r r′ (p ∙ sym q)
-
-pub find-once : (s : List ℕ) (number : ℕ) (x x′ : List ℕ) → Finds s number x → Finds s number x′ → x ≡ x′
-find-once s number x x′ p q = p ∙ sym q
-
-change-same : (t : List ℕ) (r r′ : Change) → answerOfChange t r ≡ answerOfChange t r′ → r ≡ r′
+change-same : (t : List ℕ) (r q : Change) → answerOfChange t r ≡ answerOfChange t q → r ≡ q
 change-same t change.Done change.Done e = refl
-change-same t change.Done (change.Refused r p) e = no-answer e
-change-same t (change.Refused r p) change.Done e = no-answer (sym e)
-change-same t (change.Refused r p) (change.Refused r′ p′) e = let q = refusal-once r r′ p p′ e in λ i. change.Refused (q .0 i) (q .1 i)
+change-same t change.Done (change.Refused g) e = no-answer e
+change-same t (change.Refused f) change.Done e = no-answer (sym e)
+change-same t (change.Refused f) (change.Refused g) e = ap change.Refused (refused-once {A = List ℕ} e)
 
-change-once : (s : List ℕ) (asked : Answer (List ℕ)) (t t′ : List ℕ) (r r′ : Change) → Changes s asked t r → Changes s asked t′ r′ → (t ≡ t′) × (r ≡ r′)
-change-once s asked t t′ r r′ p q =
-    let e = p .leaves ∙ sym (q .leaves) in
-    (e, change-same t r r′ (p .says ∙ sym (q .says) ∙ ap (λ (u : List ℕ). answerOfChange u r′) (sym e)))
+change-once : (s : List ℕ) (asked : Answer (List ℕ)) (t u : List ℕ) (r q : Change) → Changes s asked t r → Changes s asked u q → (r ≡ q) × (t ≡ u)
+change-once s asked t u r q h k =
+    let e = h .leaves ∙ sym (k .leaves) in
+    (change-same t r q (h .says ∙ sym (k .says) ∙ ap (λ (x : List ℕ). answerOfChange x q) (sym e)), e)
 
-pub erase-once : (s t t′ : List ℕ) (r r′ : Change) → Erases s t r → Erases s t′ r′ → (t ≡ t′) × (r ≡ r′)
-erase-once s t t′ r r′ p q = change-once s (erasing s) t t′ r r′ p q
+module _ (s : List ℕ) where
+  pub check-once : (r q : Checked) → Checks s r → Checks s q → r ≡ q
+  check-once r q h k = checked-same r q (h ∙ sym k)
 
-pub append-once : (s : List ℕ) (c : Curve) (t t′ : List ℕ) (r r′ : Change) → Appends s c t r → Appends s c t′ r′ → (t ≡ t′) × (r ≡ r′)
-append-once s c t t′ r r′ p q = change-once s (appending s c) t t′ r r′ (p .changes) (q .changes)
+  pub read-once : (number : ℕ) (r q : Reading) → Reads s number r → Reads s number q → r ≡ q
+  read-once number r q h k = reading-same r q (h ∙ sym k)
+
+  pub locate-once : (number : ℕ) (r q : Location) → Locates s number r → Locates s number q → r ≡ q
+  locate-once number r q h k = location-same r q (h ∙ sym k)
+
+  pub find-once : (number : ℕ) (x y : List ℕ) → Finds s number x → Finds s number y → x ≡ y
+  find-once number x y h k = h ∙ sym k
+
+  pub erase-once : (t u : List ℕ) (r q : Change) → Erases s t r → Erases s u q → (r ≡ q) × (t ≡ u)
+  erase-once = change-once s (erasing s)
+
+  pub append-once : (c : Curve) (t u : List ℕ) (r q : Change) → Appends s c t r → Appends s c u q → (r ≡ q) × (t ≡ u)
+  append-once c t u r q h k = change-once s (appending s c) t u r q (h .changes) (k .changes)

@@ -1,90 +1,62 @@
 -- Where the walk over a sheet's records stands.
---   Passed          `count` records end at `at`, and what is read there decides the rest; the record of the number is from `from` to `to`
---   nth-last, nth-other, nth-before   the record of a number, and those before it, where one more stands at the list's end
+--   Passed          so many curves end at `at`, and what is read there decides the rest; the curve of the number is from `from` to `to`
 --   rest-is         what is left at a place, as the code takes it
 --   passed-none     at the start
+--   walked-long     of a sheet that is too long
 --   farther         a record goes on, and not past the sheet's end
---   passed-here, passed-past   after a further record, which is the one of the number, or is not
+--   passed-here, passed-past, passed-other   after a further record: the curve of the number, another curve, or no curve
 --   sound-here, fault-here     what the sheet's end or a fault at this place says of the whole
-use mathlib.Core.Path.{_≡_, refl, sym, ap, _∙_}
+use mathlib.Core.Path.{_≡_, refl, sym, ap, _∙_, subst}
+use mathlib.Core.Bool.{Bool, true, false}
 use mathlib.Core.List.{List, [], _∷_, _++_, append-assoc, append-nil}
-use Prim.Native.Nat.{ℕ, zero, suc, _+_, _-_, _≤_, _<_}
+use Prim.Native.Nat.{ℕ, suc, _+_, _-_, _≤_, _<_}
 use native.Mathlib.Omega.{arith}
 use lib.ListN.{length, take, drop, length-append, length-drop}
-use lib.Seq.{length-take-le, take-all, take-at, drop-drop}
+use lib.Seq.{take-all, drop-drop}
 use Rattle.refusal.specs.declared.Refusal.{Refusal}
-use Rattle.sheet.specs.Steps.{stepOf}
-use Rattle.sheet.specs.Sheets.{refused, given, refuse, with-given, outcome, nth, earlier, total}
-use Rattle.sheet.specs.Promises.{part}
-use Rattle.sheet.specs.Inner.{Lists}
-use Rattle.sheet.specs.declared.steps.Step.the-variants as step
-use Rattle.sheet.proofs.Answers.{no-answer}
-use Rattle.sheet.proofs.Shown.{step-whole}
-use Rattle.sheet.proofs.Outcomes.{Records, reads, reads-ends, reads-fault, reads-record, outcome-short}
+use Rattle.refusal.specs.declared.Refusal.the-variants as refusal
+use Rattle.refusal.specs.declared.Fault.{Fault}
+use Rattle.refusal.specs.Answers.{Answer, if_then_else_}
+use Rattle.record.specs.declared.kinds.Kind.{Kind}
+use Rattle.record.specs.declared.steps.Step.the-variants as step
+use Rattle.record.specs.Kinds.{rowOf}
+use Rattle.record.specs.Steps.{stepOf}
+use Rattle.record.proofs.Shown.{step-whole}
+use Rattle.sheet.specs.declared.walks.Ending.{Ending}
+use Rattle.sheet.specs.declared.walks.Ending.the-variants.{Sound, Faulty}
+use Rattle.sheet.specs.Survey.{Entry, Survey, entryAt, nothing, before, survey, curves, nth}
+use Rattle.sheet.specs.Steps.{Asked, nowhere, there, Walks}
+use Rattle.sheet.proofs.Surveys.{reads, reads-ends, reads-fault, reads-record, survey-long, survey-short}
+use Rattle.sheet.proofs.Standing.{curves-append, nth-last, nth-other}
 
--- the records of what is ahead, behind those that were passed
-abbrev after : List (List ℕ) → Records → Records
-after behind = with-given (λ (ahead : List (List ℕ)). behind ++ ahead)
+-- what is ahead, behind the records that were passed
+abbrev after : List Entry → Survey → Survey
+after behind v = record { records = behind ++ v .records; end = v .end; ending = v .ending }
 
-after-one : (behind : List (List ℕ)) (x : List ℕ) (a : Records) → after behind (with-given (_∷_ x) a) ≡ after (behind ++ (x ∷ [])) a
-after-one behind x (refused n p) = refl
-after-one behind x (given ahead) = ap given (sym (append-assoc behind (x ∷ []) ahead))
-
-total-one : (rs : List (List ℕ)) (x : List ℕ) → total (rs ++ (x ∷ [])) ≡ total rs + length x
-total-one [] x = omega arith
-total-one (r ∷ rs) x = let e = total-one rs x in omega arith
-
--- ---- the record of a number
-
-pub nth-last : (rs : List (List ℕ)) (x : List ℕ) → nth (suc (length rs)) (rs ++ (x ∷ [])) ≡ given x
-nth-last [] x = refl
-nth-last (r ∷ rs) x = nth-last rs x
-
-pub nth-other : (number : ℕ) (rs : List (List ℕ)) (x : List ℕ) → (number ≡ suc (length rs) → ⊥) → nth number (rs ++ (x ∷ [])) ≡ nth number rs
-nth-other zero [] x n = refl
-nth-other (suc zero) [] x n = absurd (n refl)
-nth-other (suc (suc k)) [] x n = refl
-nth-other zero (r ∷ rs) x n = refl
-nth-other (suc zero) (r ∷ rs) x n = refl
-nth-other (suc (suc k)) (r ∷ rs) x n = nth-other (suc k) rs x (λ e. n (ap suc e))
-
-nth-before : (number : ℕ) (rs : List (List ℕ)) (x y : List ℕ) → nth number rs ≡ given y → earlier number (rs ++ (x ∷ [])) ≡ earlier number rs
-nth-before zero rs x y e = refl
-nth-before (suc zero) rs x y e = refl
-nth-before (suc (suc k)) [] x y e = no-answer (sym e)
-nth-before (suc (suc k)) (r ∷ rs) x y e = ap (λ (l : List (List ℕ)). r ∷ l) (nth-before (suc k) rs x y e)
-
--- ---- the walk
+after-one : (behind : List Entry) (e : Entry) (v : Survey) → after behind (before e v) ≡ after (behind ++ (e ∷ [])) v
+after-one behind e v = ap (λ (es : List Entry). record { records = es; end = v .end; ending = v .ending }) (sym (append-assoc behind (e ∷ []) (v .records)))
 
 pub record Passed (s : List ℕ) (number at count from to : ℕ) : Type 0 where
-  pub behind : List (List ℕ)
+  pub behind : List Entry
   pub ahead : reads 0 s ≡ after behind (reads at (drop at s))
   pub room : at ≤ length s
-  pub count-is : count ≡ length behind
+  pub count-is : count ≡ length (curves behind)
   pub few : count ≤ at
-  pub end-is : at ≡ total behind
-  pub forward : from ≤ to
-  pub to-fits : to ≤ length s
-  pub from-is : (x : List ℕ) → nth number behind ≡ given x → from ≡ total (earlier number behind)
-  pub part-is : take (to - from) (drop from s) ≡ part (nth number behind)
-
-after-none : (a : Records) → a ≡ after [] a
-after-none (refused n p) = refl
-after-none (given rs) = refl
+  pub asked : Asked from to (nth number (curves behind))
 
 pub passed-none : (s : List ℕ) (number : ℕ) → Passed s number 0 0 0 0
-passed-none s number =
+passed-none s number = record { behind = []; ahead = refl; room = omega arith; count-is = refl; few = omega arith; asked = nowhere refl }
+
+pub walked-long : (s : List ℕ) (number : ℕ) {f : Fault} → 4096 < length s → f ≡ record { refusal = refusal.TooLong; place = 0 } →
+    Walks s number (record { curves = 0; end = 0; from = 0; to = 0; ending = Faulty f })
+walked-long s number l g =
+    let e = survey-long s l in
     record {
-      behind = [];
-      ahead = after-none (reads 0 s);
-      room = omega arith;
-      count-is = refl;
-      few = omega arith;
-      end-is = refl;
-      forward = omega arith;
-      to-fits = omega arith;
-      from-is = λ x e. no-answer (sym e);
-      part-is = refl;
+      curves-is = sym (ap (λ (v : Survey). length (curves (v .records))) e);
+      end-is = sym (ap (λ (v : Survey). v .end) e);
+      ending-is = ap Faulty g ∙ sym (ap (λ (v : Survey). v .ending) e);
+      end-fits = omega arith;
+      asked = subst (λ (v : Survey). Asked 0 0 (nth number (curves (v .records)))) (sym e) (nowhere refl);
     }
 
 -- what is left at a place, as the code takes it
@@ -92,63 +64,78 @@ pub rest-is : (s : List ℕ) (at : ℕ) → take (length s - at) (drop at s) ≡
 rest-is s at = take-all (length s - at) (drop at s) (omega (arith, length-drop at s))
 
 module _ {s : List ℕ} {number at count from to : ℕ} (p : Passed s number at count from to) where
-  pub sound-here : length s ≤ 4096 → stepOf (drop at s) ≡ step.Ends → Lists s number (record { count = count; end = at; from = from; to = to })
-  sound-here l e =
+  walked-as : (how : Ending) → length s ≤ 4096 → reads at (drop at s) ≡ nothing at how → Walks s number (record { curves = count; end = at; from = from; to = to; ending = how })
+  walked-as how l e =
+      let v : survey s ≡ record { records = p .behind; end = at; ending = how } =
+      survey-short s l ∙ p .ahead ∙ ap (after (p .behind)) e ∙ ap (λ (es : List Entry). record { records = es; end = at; ending = how }) (append-nil (p .behind))
+      in
       record {
-        records = p .behind;
-        outcome-is = outcome-short s l ∙ p .ahead ∙ ap (after (p .behind)) (reads-ends at (drop at s) e) ∙ ap given (append-nil (p .behind));
-        count-is = p .count-is;
-        end-is = p .end-is;
+        curves-is = p .count-is ∙ sym (ap (λ (v : Survey). length (curves (v .records))) v);
+        end-is = sym (ap (λ (v : Survey). v .end) v);
+        ending-is = sym (ap (λ (v : Survey). v .ending) v);
         end-fits = p .room;
-        forward = p .forward;
-        to-fits = p .to-fits;
-        from-is = p .from-is;
-        part-is = p .part-is;
+        asked = subst (λ (v : Survey). Asked from to (nth number (curves (v .records)))) (sym v) (p .asked);
       }
 
-  pub fault-here : length s ≤ 4096 → {r : Refusal} {offset : ℕ} → stepOf (drop at s) ≡ step.Fault r offset → outcome s ≡ refuse r (at + offset)
-  fault-here l e = outcome-short s l ∙ p .ahead ∙ ap (after (p .behind)) (reads-fault at (drop at s) e)
+  pub sound-here : length s ≤ 4096 → stepOf (drop at s) ≡ step.Ends → Walks s number (record { curves = count; end = at; from = from; to = to; ending = Sound })
+  sound-here l e = walked-as Sound l (reads-ends at (drop at s) e)
 
-  module _ (size : ℕ) (e : stepOf (drop at s) ≡ step.Record size) where
+  pub fault-here : length s ≤ 4096 → {r : Refusal} {offset : ℕ} → stepOf (drop at s) ≡ step.Fault r offset →
+      Walks s number (record { curves = count; end = at; from = from; to = to; ending = Faulty (record { refusal = r; place = at + offset }) })
+  fault-here l {r} {offset} e = walked-as (Faulty (record { refusal = r; place = at + offset })) l (reads-fault at (drop at s) e)
+
+  module _ (k : Kind) (e : stepOf (drop at s) ≡ step.Record k) where
+    abbrev size : ℕ
+    size = rowOf k .size
+
+    abbrev here : Entry
+    here = entryAt at (drop at s) k
+
     pub farther : (0 < size) × (at + size ≤ length s)
-    farther = let w = step-whole (drop at s) size e in let w1 = w .1 in let w2 = w .2 in (omega arith, omega (arith, length-drop at s, p .room))
+    farther = let w = step-whole (drop at s) k e in (omega (arith, w .1), omega (arith, w .2, length-drop at s, p .room))
 
-    long : length (take size (drop at s)) ≡ size
-    long = length-take-le size (drop at s) (step-whole (drop at s) size e .2)
-
-    -- with the record behind, whatever stands at `from` and `to`
-    passed-with : (from′ to′ : ℕ) → from′ ≤ to′ → to′ ≤ length s →
-        ((x : List ℕ) → nth number (p .behind ++ (take size (drop at s) ∷ [])) ≡ given x → from′ ≡ total (earlier number (p .behind ++ (take size (drop at s) ∷ [])))) →
-        take (to′ - from′) (drop from′ s) ≡ part (nth number (p .behind ++ (take size (drop at s) ∷ []))) → Passed s number (at + size) (count + 1) from′ to′
-    passed-with from′ to′ f t b q =
-        let g = farther .0 in
+    -- with the record behind, whatever was asked for
+    passed-with : (count′ from′ to′ : ℕ) → count′ ≤ count + 1 → count′ ≡ length (curves (p .behind ++ (here ∷ []))) →
+        Asked from′ to′ (nth number (curves (p .behind ++ (here ∷ [])))) → Passed s number (at + size) count′ from′ to′
+    passed-with count′ from′ to′ f c a =
         record {
-          behind = p .behind ++ (take size (drop at s) ∷ []);
+          behind = p .behind ++ (here ∷ []);
           ahead =
-              p .ahead ∙ ap (after (p .behind)) (reads-record at (drop at s) size e)
-              ∙ after-one (p .behind) (take size (drop at s)) (reads (at + size) (drop size (drop at s)))
-              ∙ ap (λ (rest : List ℕ). after (p .behind ++ (take size (drop at s) ∷ [])) (reads (at + size) rest)) (drop-drop size at s);
+              p .ahead ∙ ap (after (p .behind)) (reads-record at (drop at s) k e)
+              ∙ after-one (p .behind) here (reads (at + size) (drop size (drop at s)))
+              ∙ ap (λ (rest : List ℕ). after (p .behind ++ (here ∷ [])) (reads (at + size) rest)) (drop-drop size at s);
           room = farther .1;
-          count-is = omega (arith, p .count-is, length-append (p .behind) (take size (drop at s) ∷ []));
-          few = omega (arith, p .few);
-          end-is = omega (arith, p .end-is, total-one (p .behind) (take size (drop at s)), long);
-          forward = f;
-          to-fits = t;
-          from-is = b;
-          part-is = q;
+          count-is = c;
+          few = omega (arith, p .few, f, farther .0);
+          asked = a;
         }
 
-    pub passed-here : count + 1 ≡ number → Passed s number (at + size) (count + 1) at (at + size)
-    passed-here n =
-        let d : at + size - at ≡ size = omega arith in
-        let m : number ≡ suc (length (p .behind)) = omega (arith, p .count-is) in
-        passed-with at (at + size) (omega arith) (farther .1)
-        (λ x e. p .end-is ∙ ap total (sym (ap (λ (n : ℕ). earlier n (p .behind ++ (take size (drop at s) ∷ []))) m ∙ take-at (p .behind) (take size (drop at s) ∷ []) (length (p .behind)) refl)))
-        (rw (d, m) (ap part (sym (nth-last (p .behind) (take size (drop at s))))))
+    one-more : rowOf k .curve ≡ true → curves (p .behind ++ (here ∷ [])) ≡ curves (p .behind) ++ (here ∷ [])
+    unfolding if_then_else_
+    one-more c = curves-append (p .behind) (here ∷ []) ∙ ap (λ (b : Bool). curves (p .behind) ++ (if b then here ∷ [] else [])) c
 
-    pub passed-past : (count + 1 ≡ number → ⊥) → Passed s number (at + size) (count + 1) from to
-    passed-past n =
-        let same = nth-other number (p .behind) (take size (drop at s)) (λ m. n (omega (arith, p .count-is))) in
-        passed-with from to (p .forward) (p .to-fits)
-        (λ x e. let g = sym same ∙ e in p .from-is x g ∙ ap total (sym (nth-before number (p .behind) (take size (drop at s)) x g)))
-        (p .part-is ∙ ap part (sym same))
+    none-more : rowOf k .curve ≡ false → curves (p .behind ++ (here ∷ [])) ≡ curves (p .behind)
+    unfolding if_then_else_
+    none-more c = curves-append (p .behind) (here ∷ []) ∙ ap (λ (b : Bool). curves (p .behind) ++ (if b then here ∷ [] else [])) c ∙ append-nil (curves (p .behind))
+
+    counted : rowOf k .curve ≡ true → count + 1 ≡ length (curves (p .behind ++ (here ∷ [])))
+    counted c = omega (arith, p .count-is, ap length (one-more c), length-append (curves (p .behind)) (here ∷ []))
+
+    pub passed-here : rowOf k .curve ≡ true → count + 1 ≡ number → Passed s number (at + size) (count + 1) at (at + size)
+    passed-here c n =
+        let m : number ≡ suc (length (curves (p .behind))) = omega (arith, p .count-is) in
+        let is : nth number (curves (p .behind ++ (here ∷ []))) ≡ _ = ap (λ (es : List Entry). nth number es) (one-more c) ∙ ap (λ (n : ℕ). nth n (curves (p .behind) ++ (here ∷ []))) m ∙ nth-last (curves (p .behind)) here in
+        passed-with (count + 1) at (at + size) (omega arith) (counted c)
+        (subst (Asked at (at + size)) (sym is) (there refl (ap (λ (n : ℕ). at + n) (sym (step-whole (drop at s) k e .0 .long)))))
+
+    pub passed-past : rowOf k .curve ≡ true → (count + 1 ≡ number → ⊥) → Passed s number (at + size) (count + 1) from to
+    passed-past c n =
+        let is : nth number (curves (p .behind ++ (here ∷ []))) ≡ nth number (curves (p .behind)) =
+        ap (λ (es : List Entry). nth number es) (one-more c) ∙ nth-other number (curves (p .behind)) here (λ m. n (omega (arith, p .count-is)))
+        in
+        passed-with (count + 1) from to (omega arith) (counted c) (subst (Asked from to) (sym is) (p .asked))
+
+    pub passed-other : rowOf k .curve ≡ false → Passed s number (at + size) count from to
+    passed-other c =
+        let same = none-more c in
+        passed-with count from to (omega arith) (p .count-is ∙ sym (ap length same)) (subst (λ (es : List Entry). Asked from to (nth number es)) (sym same) (p .asked))

@@ -1,170 +1,151 @@
 -- Where a record stands, what is read there, and where the next one stands.
---   chosen-whole    a record that is found is whole
---   chosen-placed   and a part of the sheet, behind the earlier ones
---   Stands, stands  what `locate` names is within the sheet's 4,096 bytes, and is the record that is found
---   head-at, cubic-at, quintic-at   how long the record at a place is: more than its head, and by its kind's name
---   reads-at        points that are those of the bytes there are what `read` gives, and the place behind them is the record's end
---   first-stands    the first record stands at place 0
---   next-stands     and each further one where the record before it ends
+--   Stands, stands  what `locate` names is the record that is chosen
+--   kind-at         the two bytes after its length name its kind
+--   held-curve      the curve that the bytes hold from there on is what `read` gives, and as long.      held-nothing   there is one
+--   first-stands    the first curve's record stands at place 0
+--   next-stands     and each further one where the record before it ends: every kind of record is a curve
 use mathlib.Core.Path.{_≡_, refl, sym, ap, _∙_, subst}
-use mathlib.Core.Bool.{true, false}
-use mathlib.Core.Logic.{⊎-elim}
-use mathlib.Core.List.{List, [], _∷_, _++_, append-assoc}
-use Prim.Native.Nat.{ℕ, zero, suc, _+_, _-_, _≤_, _<_}
+use mathlib.Core.Bool.{Bool, true}
+use mathlib.Core.List.{List, [], _∷_}
+use Prim.Native.Nat.{ℕ, zero, suc, _+_, _≤_, _<_}
 use native.Mathlib.Omega.{arith}
 use native.Mathlib.Nat.{not-suc-le-zero, le-of-suc-le-suc}
-use lib.ListN.{length, take, drop, length-append}
-use lib.Seq.{take-at, drop-at, getD-take}
+use lib.ListN.{length, take, drop, getD, length-drop}
+use lib.Seq.{getD-take}
+use Rattle.refusal.specs.Answers.{Answer, refused, given, with-given, if_then_else_}
+use Rattle.refusal.proofs.Answers.{no-answer, given-once}
 use Rattle.curve.specs.declared.Curve.{Curve}
 use Rattle.curve.specs.Curves.{pointsOf}
-use Rattle.sheet.specs.Kinds.{cubicKind}
-use Rattle.sheet.specs.Steps.{named}
-use Rattle.sheet.specs.Sheets.{Answer, refused, given, with-given, outcome, nth, chosen, earlier, placed, pointsIn, total}
-use Rattle.sheet.specs.Promises.{Reads, Locates}
+use Rattle.record.specs.declared.kinds.Kind.{Kind}
+use Rattle.record.specs.declared.kinds.Kind.the-variants.{Cubic, Quintic}
+use Rattle.record.specs.declared.kinds.Named.the-variants as named-as
+use Rattle.record.specs.Kinds.{rowOf, kinds, pointsIn}
+use Rattle.record.specs.Steps.{kindIn}
+use Rattle.record.specs.declared.points.Held.the-variants as held
+use Rattle.record.specs.Promise.{Begins, IsHeld}
+use Rattle.record.proofs.Table.{known-kind, same-kind}
 use Rattle.sheet.specs.declared.Reading.the-variants as reading
 use Rattle.sheet.specs.declared.Location.the-variants as location
-use Rattle.sheet.proofs.Answers.{no-answer}
-use Rattle.sheet.proofs.Shown.{Whole}
-use Rattle.sheet.proofs.Outcomes.{Records, flat, sound-of}
-use Rattle.sheet.proofs.Chosen.{nth-whole, whole-long, cubic-long, quintic-long}
-
--- ---- a record that is found
-
-chosen-from : (s : List ℕ) (number : ℕ) (a : Records) (x : List ℕ) → outcome s ≡ a → chosen number a ≡ given x → (rs : List (List ℕ)) × (outcome s ≡ given rs) × (nth number rs ≡ given x)
-chosen-from s number (refused n p) x o e = no-answer (sym e)
-chosen-from s number (given rs) x o e = (rs, o, e)
-
-pub chosen-whole : (s : List ℕ) (number : ℕ) (x : List ℕ) → chosen number (outcome s) ≡ given x → Whole x
-chosen-whole s number x e =
-    let f = chosen-from s number (outcome s) x refl e in
-    ⊎-elim
-    (λ n. no-answer (sym (f .2) ∙ n))
-    (λ g. let q : g .0 ≡ x = cc (g .1, f .2) in subst Whole q (g .2))
-    (nth-whole number (f .0) (sound-of s (f .0) (f .1) .1 .all))
-
-nth-part : (number : ℕ) (rs : List (List ℕ)) (x : List ℕ) → nth number rs ≡ given x →
-    (front back : List ℕ) × (flat rs ≡ front ++ (x ++ back)) × (length front ≡ total (earlier number rs))
-nth-part zero [] x e = no-answer (sym e)
-nth-part (suc zero) [] x e = no-answer (sym e)
-nth-part (suc (suc k)) [] x e = no-answer (sym e)
-nth-part zero (r ∷ rs) x e = no-answer (sym e)
-nth-part (suc zero) (r ∷ rs) x e = let q : r ≡ x = cc in ([], flat rs, ap (λ (y : List ℕ). y ++ flat rs) q, refl)
-nth-part (suc (suc k)) (r ∷ rs) x e =
-    let h = nth-part (suc k) rs x e in
-    (r ++ h .0, h .1, ap (λ (y : List ℕ). r ++ y) (h .2) ∙ sym (append-assoc r (h .0) (x ++ h .1)), omega (arith, length-append r (h .0), h .3))
-
-pub chosen-placed : (s : List ℕ) (number : ℕ) (x : List ℕ) → chosen number (outcome s) ≡ given x →
-    (front back : List ℕ) × (s ≡ front ++ (x ++ back)) × (placed number (outcome s) ≡ given (length front ∷ length x ∷ []))
-chosen-placed s number x e =
-    let f = chosen-from s number (outcome s) x refl e in
-    let h = sound-of s (f .0) (f .1) .1 in
-    let p = nth-part number (f .0) x (f .2) in (
-      p .0,
-      p .1 ++ h .tail,
-      h .parts ∙ ap (λ (y : List ℕ). y ++ h .tail) (p .2) ∙ append-assoc (p .0) (x ++ p .1) (h .tail) ∙ ap (λ (y : List ℕ). p .0 ++ y) (append-assoc x (p .1) (h .tail)),
-      ap (placed number) (f .1) ∙ ap (with-given (λ y. total (earlier number (f .0)) ∷ length y ∷ [])) (f .2) ∙ ap (λ (n : ℕ). given (n ∷ length x ∷ [])) (sym (p .3)),
-    )
-
-placed-chosen : (s : List ℕ) (number : ℕ) (a : Records) (l : List ℕ) → outcome s ≡ a → placed number a ≡ given l → (x : List ℕ) × (chosen number a ≡ given x)
-placed-chosen s number (refused n p) l o e = no-answer (sym e)
-placed-chosen s number (given rs) l o e = by (nth number rs) refl e
-  where
-    by : (a : Answer (List ℕ)) → nth number rs ≡ a → with-given (λ y. total (earlier number rs) ∷ length y ∷ []) a ≡ given l → (x : List ℕ) × (nth number rs ≡ given x)
-    by (refused n p) q e = no-answer (sym e)
-    by (given x) q e = (x, q)
+use Rattle.sheet.specs.Survey.{Entry, survey, outcome, curves, nth, chosen}
+use Rattle.sheet.specs.Promise.{countOf, pointsOfEntry, placeOf, Reads, Locates}
+use Rattle.sheet.proofs.Surveys.{Listed, sound-of, short-of, sheet-parts}
+use Rattle.sheet.proofs.Standing.{Standing, Chosen, chosen-sound, chosen-of, entry-long}
 
 pub record Stands (s : List ℕ) (number place long : ℕ) : Type 0 where
-  pub short : length s ≤ 4096
-  pub fits : place + long ≤ length s
-  pub chosen-is : chosen number (outcome s) ≡ given (take long (drop place s))
-  pub size-is : length (take long (drop place s)) ≡ long
+  pub entry : Entry
+  pub chosen-is : chosen number s ≡ given entry
+  pub place-is : entry .place ≡ place
+  pub long-is : length (entry .bytes) ≡ long
 
 pub stands : (s : List ℕ) (number place long : ℕ) → Locates s number (location.At place long) → Stands s number place long
-stands s number place long e =
-    let f = placed-chosen s number (outcome s) (place ∷ long ∷ []) refl (sym e) in
-    let x = f .0 in
-    let p = chosen-placed s number x (f .1) in
-    let both : given (length (p .0) ∷ length x ∷ []) ≡ given (place ∷ long ∷ []) = sym (p .3) ∙ sym e in
-    let at : length (p .0) ≡ place = cc in
-    let size : length x ≡ long = cc in
-    let rest : drop place s ≡ x ++ p .1 = ap (drop place) (p .2) ∙ drop-at (p .0) (x ++ p .1) place at in
-    let is : take long (drop place s) ≡ x = ap (take long) rest ∙ take-at x (p .1) long size in
-    record {
-      short = sound-of s _ (chosen-from s number (outcome s) x refl (f .1) .1) .0;
-      fits = omega (arith, ap length (p .2), length-append (p .0) (x ++ p .1), length-append x (p .1));
-      chosen-is = f .1 ∙ ap given (sym is);
-      size-is = ap length is ∙ size;
-    }
-
--- ---- what is read at a place
-
--- the head of four bytes names the kind
-named-front : (name bytes : List ℕ) (n : ℕ) → 4 < n → named name (take n bytes) ≡ named name bytes
-unfolding named
-named-front name bytes n l = rw (getD-take n bytes 2 0 (omega arith), getD-take n bytes 3 0 (omega arith))
+stands s number place long = by (chosen number s) refl
+  where
+    by : (a : Answer Entry) → chosen number s ≡ a → given (place ∷ long ∷ []) ≡ with-given placeOf a → Stands s number place long
+    by (refused f) q e = no-answer e
+    by (given x) q e =
+        let both = sym (given-once e) in
+        record { entry = x; chosen-is = q; place-is = ap (λ (l : List ℕ). getD l 0 0) both; long-is = ap (λ (l : List ℕ). getD l 1 0) both }
 
 module _ {s : List ℕ} {number place long : ℕ} (h : Stands s number place long) where
-  whole-at : Whole (take long (drop place s))
-  whole-at = chosen-whole s number _ (h .chosen-is)
+  pub choice : Chosen s number (h .entry)
+  choice = chosen-of s number (h .chosen-is)
+
+  pub fits : place + long ≤ length s
+  fits = omega (arith, choice .stands .fits, h .place-is, h .long-is)
 
   pub head-at : 4 < long
-  head-at = omega (arith, whole-long whole-at, h .size-is)
+  head-at = omega (arith, entry-long (choice .stands), h .long-is)
 
-  pub cubic-at : named (cubicKind .name) (drop place s) ≡ true → long ≡ 36
-  cubic-at n = sym (h .size-is) ∙ cubic-long whole-at (named-front _ _ _ head-at ∙ n)
+  pub bytes-at : take long (drop place s) ≡ h .entry .bytes
+  bytes-at = (λ i. take (sym (h .long-is) i) (drop (sym (h .place-is) i) s)) ∙ choice .stands .there
 
-  pub quintic-at : named (cubicKind .name) (drop place s) ≡ false → long ≡ 52
-  quintic-at n = sym (h .size-is) ∙ quintic-long whole-at (named-front _ _ _ head-at ∙ n)
+  pub kind-at : kindIn kinds (drop place s) ≡ named-as.Kind (h .entry .kind)
+  kind-at =
+      let head : (i : ℕ) → i < long → getD (drop place s) i 0 ≡ getD (h .entry .bytes) i 0 =
+      λ i l. sym (getD-take long (drop place s) i 0 l) ∙ ap (λ (l : List ℕ). getD l i 0) bytes-at
+      in
+      same-kind kinds (drop place s) (h .entry .bytes) (head 2 (omega (arith, head-at))) (head 3 (omega (arith, head-at)))
+      ∙ known-kind (h .entry .kind) (h .entry .bytes) (choice .stands .whole .here .name-is)
 
-  -- the bytes as the code takes them
-  pub reads-at :
-      (c : Curve) (n : ℕ) → long ≡ n → pointsOf c ≡ pointsIn (take (place + n - place) (drop place s)) →
-      Reads s number (reading.Points c) × (place + n ≡ place + long)
-  reads-at c n l p =
-      let k : place + n - place ≡ long = omega arith in
-      (ap given (p ∙ ap (λ (m : ℕ). pointsIn (take m (drop place s))) k) ∙ sym (ap (with-given pointsIn) (h .chosen-is)), omega arith)
+  begins : Begins (drop place s) (h .entry .kind)
+  begins =
+      let long = length-drop place s in
+      record { long = omega (arith, fits, head-at); name = kind-at; fits = omega (arith, fits, h .long-is, choice .stands .whole .long) }
+
+  pub held-nothing : IsHeld (drop place s) held.Nothing → ⊥
+  held-nothing n = n (h .entry .kind) begins
+
+  pub held-curve : (c : Curve) (size : ℕ) → IsHeld (drop place s) (held.Curve c size) → Reads s number (reading.Points c) × (size ≡ long)
+  held-curve c size (k, b, n, p) =
+      let same : h .entry .kind ≡ k = cc (sym kind-at ∙ b .name) in
+      let is : size ≡ long = n ∙ ap (λ (k : Kind). rowOf k .size) (sym same) ∙ sym (choice .stands .whole .long) ∙ h .long-is in
+      (ap given (p ∙ ap (λ (m : ℕ). pointsIn (take m (drop place s))) is ∙ ap pointsIn bytes-at) ∙ sym (ap (with-given pointsOfEntry) (h .chosen-is)), is)
 
 -- ---- one record after another
 
-nth-listed : (k : ℕ) (rs : List (List ℕ)) → k < length rs → (x : List ℕ) × (nth (suc k) rs ≡ given x)
+every-curve : (k : Kind) → rowOf k .curve ≡ true
+every-curve Cubic = refl
+every-curve Quintic = refl
+
+all-curves : (es : List Entry) → curves es ≡ es
+unfolding if_then_else_
+all-curves [] = refl
+all-curves (e ∷ es) =
+    ap (λ (b : Bool). if b then e ∷ curves es else curves es) (every-curve (e .kind)) ∙ ap (λ (l : List Entry). e ∷ l) (all-curves es)
+
+nth-listed : (k : ℕ) (es : List Entry) → k < length es → (e : Entry) × (nth (suc k) es ≡ given e)
 nth-listed k [] l = absurd (not-suc-le-zero l)
-nth-listed zero (x ∷ xs) l = (x, refl)
-nth-listed (suc k) (x ∷ xs) l = nth-listed k xs (le-of-suc-le-suc l)
+nth-listed zero (e ∷ es) l = (e, refl)
+nth-listed (suc k) (e ∷ es) l = nth-listed k es (le-of-suc-le-suc l)
 
-total-next : (number : ℕ) (rs : List (List ℕ)) (x : List ℕ) → nth number rs ≡ given x → total (earlier (suc number) rs) ≡ total (earlier number rs) + length x
-total-next zero [] x e = no-answer (sym e)
-total-next (suc zero) [] x e = no-answer (sym e)
-total-next (suc (suc k)) [] x e = no-answer (sym e)
-total-next zero (r ∷ rs) x e = no-answer (sym e)
-total-next (suc zero) (r ∷ rs) x e = let q : r ≡ x = cc in omega (arith, ap length q)
-total-next (suc (suc k)) (r ∷ rs) x e = let h = total-next (suc k) rs x e in omega arith
+first-place : (at : ℕ) (es : List Entry) {e : Entry} → Listed at es → nth 1 es ≡ given e → e .place ≡ at
+first-place at [] w q = no-answer (sym q)
+first-place at (x ∷ es) w q = sym (ap (λ (e : Entry). e .place) (given-once q)) ∙ w .0
 
--- record k + 1 of a sheet that has it stands behind the first k
-placed-behind : (s : List ℕ) (rs : List (List ℕ)) (k : ℕ) → outcome s ≡ given rs → k < length rs → (long : ℕ) × Locates s (suc k) (location.At (total (take k rs)) long)
-placed-behind s rs k o l =
-    let f = nth-listed k rs l in
-    (length (f .0), sym (ap (placed (suc k)) o ∙ ap (with-given (λ y. total (take k rs) ∷ length y ∷ [])) (f .1)))
+next-place : (at number : ℕ) (es : List Entry) {e f : Entry} → Listed at es → nth number es ≡ given e → nth (suc number) es ≡ given f
+    → f .place ≡ e .place + length (e .bytes)
+next-place at zero [] w p q = no-answer (sym p)
+next-place at (suc zero) [] w p q = no-answer (sym p)
+next-place at (suc (suc k)) [] w p q = no-answer (sym p)
+next-place at zero (x ∷ es) w p q = no-answer (sym p)
+next-place at (suc zero) (x ∷ es) {e} w p q =
+    first-place (at + length (x .bytes)) es (w .2) q ∙ (λ i. sym (w .0) i + length (x .bytes)) ∙ ap (λ (e : Entry). e .place + length (e .bytes)) (given-once p)
+next-place at (suc (suc k)) (x ∷ es) w p q = next-place (at + length (x .bytes)) (suc k) es (w .2) p q
 
-counted : (s : List ℕ) (count : ℕ) (a : Records) → outcome s ≡ a → with-given length a ≡ given count → (rs : List (List ℕ)) × (outcome s ≡ given rs) × (length rs ≡ count)
-counted s count (refused n p) o e = no-answer (sym e)
-counted s count (given rs) o e = (rs, o, (cc))
+module _ (s : List ℕ) (count : ℕ) (counted : with-given countOf (outcome s) ≡ given count) where
+  abbrev records : List Entry
+  records = survey s .records
 
-module _ (s : List ℕ) (count : ℕ) (e : with-given length (outcome s) ≡ given count) where
+  record Counted : Type 0 where
+    listed : Listed 0 records
+    many : length records ≡ count
+    chosen-is : (number : ℕ) → chosen number s ≡ nth number records
+
+  is-counted : Counted
+  is-counted = by (outcome s) refl counted
+    where
+      by : (a : Answer (List Entry)) → outcome s ≡ a → with-given countOf a ≡ given count → Counted
+      by (refused f) o e = no-answer (sym e)
+      by (given es) o e =
+          let h = sound-of s o in
+          record {
+            listed = sheet-parts s (short-of s (h .0)) .listed;
+            many = ap length (sym (all-curves records) ∙ ap curves (h .1)) ∙ given-once e;
+            chosen-is = λ number. chosen-sound s number (h .0) ∙ ap (nth number) (all-curves records);
+          }
+
+  locates : (number : ℕ) {e : Entry} {place : ℕ} → nth number records ≡ given e → e .place ≡ place → Locates s number (location.At place (length (e .bytes)))
+  locates number {e} q p = ap (λ (n : ℕ). given (n ∷ length (e .bytes) ∷ [])) (sym p) ∙ sym (ap (with-given placeOf) (is-counted .chosen-is number ∙ q))
+
   pub first-stands : 0 < count → (long : ℕ) × Locates s 1 (location.At 0 long)
-  first-stands l = let f = counted s count (outcome s) refl e in placed-behind s (f .0) 0 (f .1) (omega (arith, f .2))
+  first-stands l =
+      let f = nth-listed 0 records (omega (arith, is-counted .many)) in
+      (length (f .0 .bytes), locates 1 (f .1) (first-place 0 records (is-counted .listed) (f .1)))
 
   pub next-stands : {number place long : ℕ} → number < count → Locates s number (location.At place long) → (next : ℕ) × Locates s (suc number) (location.At (place + long) next)
   next-stands {number} {place} {long} l h =
-      let f = counted s count (outcome s) refl e in
-      let rs = f .0 in
-      let g = placed-chosen s number (outcome s) (place ∷ long ∷ []) refl (sym h) in
-      let x = g .0 in
-      let n : nth number rs ≡ given x = sym (ap (chosen number) (f .1)) ∙ g .1 in
-      let both : given (place ∷ long ∷ []) ≡ given (total (earlier number rs) ∷ length x ∷ []) =
-      h ∙ ap (placed number) (f .1) ∙ ap (with-given (λ y. total (earlier number rs) ∷ length y ∷ [])) n
-      in
-      let at : place ≡ total (earlier number rs) = cc in
-      let size : long ≡ length x = cc in
-      let end : total (take number rs) ≡ place + long = omega (arith, total-next number rs x n) in
-      let k = placed-behind s rs number (f .1) (omega (arith, f .2)) in
-      (k .0, subst (λ (p : ℕ). Locates s (suc number) (location.At p (k .0))) end (k .1))
+      let at = stands s number place long h in
+      let here : nth number records ≡ given (at .entry) = sym (is-counted .chosen-is number) ∙ at .chosen-is in
+      let f = nth-listed number records (omega (arith, is-counted .many)) in
+      let p : f .0 .place ≡ place + long = next-place 0 number records (is-counted .listed) here (f .1) ∙ (λ i. at .place-is i + at .long-is i) in
+      (length (f .0 .bytes), locates (suc number) (f .1) p)

@@ -1,8 +1,5 @@
--- The definitions that the contracts cite, from a number's bytes up to what each call promises.
-pub mod Choice
-pub mod Numbers
-pub mod Kinds
+-- The definitions that the contracts cite: what a walk over a sheet finds, and what each call promises; `Steps` is for the parts of the
+-- program only.
+pub mod Survey
+pub mod Promise
 pub mod Steps
-pub mod Sheets
-pub mod Promises
-pub mod Inner

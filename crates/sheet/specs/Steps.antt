@@ -1,53 +1,22 @@
--- One step of reading a sheet: what stands at the start of the bytes that are left. By tests, in the order of 01, "The parameter sheet".
---   erasedBytes  how many bytes FF a list begins with
---   named        the two bytes after the length are a name
---   allWithin    every number is from −20,000 to 20,000
---   erasedStep, sizedStep, kindStep   the tests behind an erased length, of a known kind, and of the kind
---   stepOf       the step. Places count from the first byte left
-use mathlib.Core.Bool.{Bool, true, not, _&&_}
-use mathlib.Core.List.{List, [], _∷_}
-use Prim.Native.Nat.{ℕ, suc}
-use lib.Dec.{ltb, leb, eqb}
-use lib.ListN.{length, getD}
-use lib.IntN.{ℤ, natAbs}
+-- What the functions inside the crate promise one another. No public contract speaks of it.
+--   Asked       from where to where the curve of a number stands among some records: from a place to the same place where there is none
+--   Walks       what the one walk over the records, which all calls share, finds
+use mathlib.Core.Path.{_≡_}
+use mathlib.Core.List.{List}
+use Prim.Native.Nat.{ℕ, _+_, _≤_}
+use lib.ListN.{length}
 use Rattle.refusal.specs.declared.Refusal.the-variants as refusal
-use Rattle.sheet.specs.Choice.{if_then_else_}
-use Rattle.sheet.specs.Numbers.{sizeOf, coordinates}
-use Rattle.sheet.specs.Kinds.{Kind, kinds}
-use Rattle.sheet.specs.declared.steps.Step.{Step}
-use Rattle.sheet.specs.declared.steps.Step.the-variants.{Ends, Fault, Record}
+use Rattle.refusal.specs.Answers.{Answer, given, refuse}
+use Rattle.sheet.specs.declared.walks.Walked.{Walked}
+use Rattle.sheet.specs.Survey.{Entry, survey, curves, nth}
 
-abbrev pub erasedBytes : List ℕ → ℕ
-erasedBytes [] = 0
-erasedBytes (b ∷ bytes) = if eqb b 255 then suc (erasedBytes bytes) else 0
+pub data Asked (from to : ℕ) : Answer Entry → Type 0 where
+  nowhere : from ≡ to → Asked from to (refuse refusal.Number 0)
+  there : {e : Entry} → from ≡ e .place → to ≡ e .place + length (e .bytes) → Asked from to (given e)
 
--- what an erased length begins: every byte left must be FF
-unfoldable pub erasedStep : List ℕ → Step
-erasedStep rest = if ltb (erasedBytes rest) (length rest) then Fault refusal.Leftover (erasedBytes rest) else Ends
-
-unfoldable pub named : List ℕ → List ℕ → Bool
-named name rest = eqb (getD rest 2 0) (getD name 0 0) && eqb (getD rest 3 0) (getD name 1 0)
-
-unfoldable pub allWithin : List ℤ → Bool
-allWithin [] = true
-allWithin (x ∷ xs) = leb (natAbs x) 20000 && allWithin xs
-
--- a record of a known kind, which is to have a length and so many coordinates
-unfoldable pub sizedStep : ℕ → ℕ → List ℕ → Step
-sizedStep size words rest =
-    if not (eqb (sizeOf rest) size) then Fault refusal.Length 0
-    else if ltb (length rest) size then Fault refusal.Cut 0
-    else if not (allWithin (coordinates words rest 4)) then Fault refusal.Range 0
-    else Record size
-
-unfoldable pub kindStep : List Kind → List ℕ → Step
-kindStep [] rest = Fault refusal.Kind 0
-kindStep (k ∷ ks) rest = if named (k .name) rest then sizedStep (k .size) (k .words) rest else kindStep ks rest
-
-unfoldable pub stepOf : List ℕ → Step
-stepOf rest =
-    if eqb (length rest) 0 then Ends
-    else if eqb (length rest) 1 then (if eqb (getD rest 0 0) 255 then Ends else Fault refusal.Cut 0)
-    else if eqb (sizeOf rest) 65535 then erasedStep rest
-    else if ltb (length rest) 4 then Fault refusal.Cut 0
-    else kindStep kinds rest
+pub record Walks (s : List ℕ) (number : ℕ) (w : Walked) : Type 0 where
+  pub curves-is : w .curves ≡ length (curves (survey s .records))
+  pub end-is : w .end ≡ survey s .end
+  pub ending-is : w .ending ≡ survey s .ending
+  pub end-fits : w .end ≤ length s
+  pub asked : Asked (w .from) (w .to) (nth number (curves (survey s .records)))

@@ -1,84 +1,58 @@
-// The parameter sheet, at most 4,096 bytes of records, each a curve.
+// The parameter sheet, at most 4,096 bytes of records.
 //   check    how many curves a sheet has, or its first fault
 //   read     a curve by its number, as points
-//   read_at  a curve by the place of its record, without a walk
 //   locate   where a curve's record stands
 //   find     the part of the sheet that holds a curve
 //   erase    makes every byte FF
 //   append   writes one more curve
-//   cubic_numbers, quintic_numbers   a curve's coordinates, as a record holds them
-// No call but `read_at`, which asks for a record's place, asks anything of its arguments. A call that refuses leaves the sheet as it was.
-mod numbers;
-mod steps;
+// No call asks anything of its arguments. A call that refuses leaves the sheet as it was.
 mod walks;
-mod writes;
 
-ghost use Rattle.sheet.specs.Promises.{Checks, Reads, Locates, Finds, Erases, Appends};
-use crate::walks::Survey;
-pub use crate::walks::read_at;
+ghost use Rattle.sheet.specs.Promise.{Checks, Reads, Locates, Finds, Erases, Appends};
+use crate::walks::Ending;
 use crate::walks::walk;
-use crate::writes::append_at;
-pub use crate::writes::cubic_numbers;
-pub use crate::writes::quintic_numbers;
 use curve::Curve;
+use record::Held;
+use record::Put;
+use record::held_curve;
+use record::put_curve;
+use refusal::Fault;
 use refusal::Refusal;
+use refusal::nowhere;
 
-// What `check` answers: how many curves, or the refusal and its place.
+// What `check` answers: how many curves.
 pub enum Checked {
     Curves(usize),
-    Refused(Refusal, usize),
+    Refused(Fault),
 }
 
 // What `read` answers.
 pub enum Reading {
     Points(Curve),
-    Refused(Refusal, usize),
+    Refused(Fault),
 }
 
-// What `read_at` answers: the curve, and the place behind its record, where the next one begins.
-pub struct Record {
-    pub curve: Curve,
-    pub end: usize,
-}
-
-// What `locate` answers: the place of a record's first byte and how many bytes it has, or the refusal and its place.
+// What `locate` answers: the place of a record's first byte and how many bytes it has.
 pub enum Location {
     At { place: usize, length: usize },
-    Refused(Refusal, usize),
+    Refused(Fault),
 }
 
 // What `erase` and `append` answer.
 pub enum Change {
     Done,
-    Refused(Refusal, usize),
+    Refused(Fault),
 }
 
 // How many curves a sheet has.
 pub fn check(sheet: &[u8]) -> Checked
     ensures { λ r. ⌜ Checks (now (sheet .entry)) r ⌝ }
 {
-    match walk(sheet, 0) {
-        Survey::Fault(r, place) => Checked::Refused(r, place),
-        Survey::Sound(l) => Checked::Curves(l.count),
-    }
-}
-
-// The points of curve `number`, from 1.
-pub fn read(sheet: &[u8], number: usize) -> Reading
-    ensures { λ r. ⌜ Reads (now (sheet .entry)) number r ⌝ }
-{
-    match walk(sheet, number) {
-        Survey::Fault(r, place) => Reading::Refused(r, place),
-        Survey::Sound(l) => {
-            let from = l.from;
-            let to = l.to;
-            if from == to {
-                return Reading::Refused(Refusal::Number, 0);
-            }
-            let record = read_at(sheet, from);
-            let curve = record.curve;
-            Reading::Points(curve)
-        }
+    let w = walk(sheet, 0);
+    let ending = w.ending;
+    match ending {
+        Ending::Sound => Checked::Curves(w.curves),
+        Ending::Faulty(f) => Checked::Refused(f),
     }
 }
 
@@ -86,17 +60,33 @@ pub fn read(sheet: &[u8], number: usize) -> Reading
 pub fn locate(sheet: &[u8], number: usize) -> Location
     ensures { λ r. ⌜ Locates (now (sheet .entry)) number r ⌝ }
 {
-    match walk(sheet, number) {
-        Survey::Fault(r, place) => Location::Refused(r, place),
-        Survey::Sound(l) => {
-            let place = l.from;
-            let to = l.to;
+    let w = walk(sheet, number);
+    let ending = w.ending;
+    match ending {
+        Ending::Sound => {
+            let place = w.from;
+            let to = w.to;
             if place == to {
-                return Location::Refused(Refusal::Number, 0);
+                return Location::Refused(nowhere(Refusal::Number));
             }
             let length = to - place;
             Location::At { place, length }
         }
+        Ending::Faulty(f) => Location::Refused(f),
+    }
+}
+
+// The points of curve `number`, from 1.
+pub fn read(sheet: &[u8], number: usize) -> Reading
+    ensures { λ r. ⌜ Reads (now (sheet .entry)) number r ⌝ }
+{
+    match locate(sheet, number) {
+        Location::At { place, length: _ } => match held_curve(&sheet[place..]) {
+            Held::Curve { curve, size: _ } => Reading::Points(curve),
+            // A curve's record stands there.
+            Held::Nothing => Reading::Refused(nowhere(Refusal::Number)),
+        },
+        Location::Refused(f) => Reading::Refused(f),
     }
 }
 
@@ -104,13 +94,9 @@ pub fn locate(sheet: &[u8], number: usize) -> Location
 pub fn find<'a>(sheet: &'a [u8], number: usize) -> &'a [u8]
     ensures { λ r. ⌜ Finds (now (sheet .entry)) number (now r) ⌝ }
 {
-    match walk(sheet, number) {
-        Survey::Fault(_, _) => &sheet[..0],
-        Survey::Sound(l) => {
-            let from = l.from;
-            let to = l.to;
-            &sheet[from..to]
-        }
+    match locate(sheet, number) {
+        Location::At { place, length } => &sheet[place..place + length],
+        Location::Refused(_) => &sheet[..0],
     }
 }
 
@@ -119,7 +105,7 @@ pub fn erase(sheet: &mut [u8]) -> Change
     ensures { λ r. ⌜ Erases (now (sheet .entry)) (now (sheet .exit)) r ⌝ }
 {
     if sheet.len() > 4096 {
-        return Change::Refused(Refusal::TooLong, 0);
+        return Change::Refused(nowhere(Refusal::TooLong));
     }
     let mut i: usize = 0;
     while i < sheet.len() {
@@ -133,20 +119,13 @@ pub fn erase(sheet: &mut [u8]) -> Change
 pub fn append(sheet: &mut [u8], curve: Curve) -> Change
     ensures { λ r. ⌜ Appends (now (sheet .entry)) curve (now (sheet .exit)) r ⌝ }
 {
-    match walk(sheet, 0) {
-        Survey::Fault(r, place) => Change::Refused(r, place),
-        Survey::Sound(l) => {
-            let end = l.end;
-            match curve {
-                Curve::Cubic(c) => {
-                    let xs = cubic_numbers(c);
-                    append_at(sheet, end, b"C3", &xs)
-                }
-                Curve::Quintic(c) => {
-                    let xs = quintic_numbers(c);
-                    append_at(sheet, end, b"C5", &xs)
-                }
-            }
-        }
+    let w = walk(sheet, 0);
+    let ending = w.ending;
+    match ending {
+        Ending::Sound => match put_curve(sheet, w.end, curve) {
+            Put::Done => Change::Done,
+            Put::Refused(r) => Change::Refused(nowhere(r)),
+        },
+        Ending::Faulty(f) => Change::Refused(f),
     }
 }

@@ -1,88 +1,100 @@
-// The lines of a script: `LABEL: CALL ARGUMENTS`. Empty lines, and those that begin with #, are left out.
+// The lines: `LABEL: CALL ARGUMENTS`, or a call alone. Empty lines, and those that begin with #, are passed over.
+ghost use mathlib.Core.Path.{_≡_};
 ghost use Prim.Native.Nat.{_≤_};
 ghost use lib.ListN.{length};
-ghost use Rattle.io.specs.Counts.{Counts};
-use crate::curves;
-use crate::curves::curve_of;
-use crate::lent::lend;
-use crate::measures;
-use crate::numbers::numbers;
-use crate::sheets;
+use crate::calls::answer;
+use crate::calls::suits;
+use crate::names::look_up;
+use crate::numbers::arguments;
+use crate::places::find;
+use crate::places::find_gap;
 use crate::words::say;
+use crate::words::say_number;
 
-// The first place from `from` on that has the byte, or the text's end.
-fn find(text: &[u8], from: usize, byte: u8) -> usize
+fn say_error(line: usize, column: usize, why: &[u8]) {
+    say(b"error at line ");
+    say_number(line as u64);
+    say(b", column ");
+    say_number(column as u64);
+    say(b": ");
+    say(why);
+}
+
+// The call that is named, with the numbers from a place on; false where they are not as many as it takes.
+fn ask(named: usize, text: &[u8], from: usize, line: usize, n: &mut [i64], area: &mut [u8]) -> bool
     requires { ⌜ from ≤ length (now text) ⌝ }
-    ensures { λ r. ⌜ from ≤ r ⌝ }
-    ensures { λ r. ⌜ Counts r (now (text .entry)) ⌝ }
+    requires { ⌜ length (now n) ≡ 64 ⌝ }
 {
-    let mut at = from;
-    while at < text.len() {
-        if text[at] == byte {
-            return at;
-        }
-        at += 1;
+    let found = arguments(text, from, n);
+    let wrong = found.wrong;
+    if wrong < text.len() {
+        say_error(line, wrong + 1, b"neither a number nor a word of a call");
+        return true;
     }
-    at
+    let count = found.count;
+    if suits(named, n, count) {
+        answer(named, n, count, area);
+        return true;
+    }
+    false
 }
 
-// `C3` or `C5`, the curve's points and the runs of the sheet. The kind stands at a place of its own.
-fn append(text: &[u8], area: &mut [u8]) {
-    if text.len() < 12 {
+// The call that begins at a place.
+fn call(text: &[u8], from: usize, line: usize, area: &mut [u8])
+    requires { ⌜ from ≤ length (now text) ⌝ }
+{
+    let start = find_gap(text, from, false);
+    if start == text.len() {
+        say_error(line, start, b"a label without a call");
+        return;
+    }
+    let end = find_gap(text, start, true);
+    let named = look_up(&text[start..end], false);
+    if named == 0 {
+        say_error(line, start + 1, b"no call has this name; the calls are\n");
+        look_up(&text[start..end], true);
         return;
     }
     let mut n = [0i64; 64];
-    let count = numbers(&text[11..], &mut n);
-    let points = if text[10] == b'3' { 8 } else { 12 };
-    sheets::append(area, &n, count, curve_of(&n, points), points);
-}
-
-// The calls' names differ in their first letter, but for two that differ in their third.
-fn call(text: &[u8], area: &mut [u8]) {
-    if text.len() < 5 {
-        return;
-    }
-    let mut n = [0i64; 64];
-    let count = numbers(text, &mut n);
-    match text[2] {
-        b'r' => {
-            if text[4] == b'a' {
-                sheets::part(area, &n, count, b'r');
-            } else {
-                curves::recognise(curve_of(&n, count));
-            }
-        }
-        b'l' => measures::length(curve_of(&n, count)),
-        b'i' => measures::inflections(curve_of(&n, count)),
-        b'o' | b'j' => lend(&n, count),
-        b'b' => measures::build(&n, count),
-        b'c' | b'e' => sheets::whole(area, &n, count, text[2]),
-        b'f' => sheets::part(area, &n, count, b'f'),
-        b'a' => append(text, area),
-        _ => say(b"no such call"),
+    if !ask(named, text, end, line, &mut n, area) {
+        say_error(line, start + 1, b"usage: ");
+        look_up(&text[start..end], true);
     }
 }
 
-fn line(text: &[u8], area: &mut [u8]) {
+// Writes the label, if there is one; where the call begins.
+fn pass_label(text: &[u8]) -> usize
+    ensures { λ r. ⌜ r ≤ length (now (text .entry)) ⌝ }
+{
+    let colon = find(text, 0, b':');
+    if colon == text.len() {
+        return 0;
+    }
+    say(&text[0..colon]);
+    say(b": ");
+    colon + 1
+}
+
+fn answer_line(text: &[u8], line: usize, area: &mut [u8]) {
     if text.len() == 0 {
         return;
     }
     if text[0] == b'#' {
         return;
     }
-    let colon = find(text, 0, b':');
-    say(&text[..colon]);
-    say(b": ");
-    call(&text[colon..], area);
+    let from = pass_label(text);
+    call(text, from, line, area);
     say(b"\n");
 }
 
 // The area is what the sheets are made in.
 pub(crate) fn all(text: &[u8], area: &mut [u8]) {
     let mut at: usize = 0;
+    let mut number: usize = 1;
     while at < text.len() {
         let end = find(text, at, b'\n');
-        line(&text[at..end], area);
+        answer_line(&text[at..end], number, area);
         at = end + 1;
+        number += 1;
     }
 }

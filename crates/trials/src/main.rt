@@ -1,20 +1,35 @@
-// Tries the calls, which it reads, a line each, and writes what each answers.
-// The file `stdin` has the calls, and `stdout` the answers of the second program.
-mod areas;
+// Asks the calls of the library: reads a line for each from the standard input and writes what it answers.
+// The file `stdin` has calls, and `stdout` the answers of the second program.
+mod answers;
+mod calls;
 mod curves;
-mod lent;
 mod lines;
-mod measures;
+mod names;
 mod numbers;
+mod places;
 mod runs;
 mod sheets;
 mod words;
 
+ghost use Prim.Native.Nat.{_≤_};
+ghost use lib.ListN.{length};
+use crate::words::say;
 use libc::STDIN_FILENO;
+
+// A text that fills its area may go on behind it. The other area is what sheets are made in: one byte too many is told from a sheet.
+fn answer_input(text: &mut [u8], area: &mut [u8])
+    requires { ⌜ 4097 ≤ length (now area) ⌝ }
+{
+    let read = io::read_full(STDIN_FILENO, text);
+    if read == text.len() {
+        say(b"error: the text has more than 65,535 bytes\n");
+    } else {
+        lines::all(&text[..read], area);
+    }
+}
 
 fn main() {
     let mut text = io::large_buffer();
-    let n = io::read_full(STDIN_FILENO, &mut text);
-    let mut area = [0u8; 4100];
-    lines::all(&text[..n], &mut area);
+    let mut area = [0u8; 4097];
+    answer_input(&mut text, &mut area);
 }

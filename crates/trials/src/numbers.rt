@@ -1,63 +1,113 @@
-// The whole numbers of a text: every run of digits, with the sign before it.
+// The arguments of a call: whole numbers, with blanks, brackets, commas and small words between them.
+ghost use mathlib.Core.Path.{_≡_};
+ghost use Prim.Native.Nat.{_≤_};
+ghost use lib.ListN.{length};
+use crate::places::find_gap;
+use crate::words::same;
 
-fn is_digit(b: u8) -> bool {
-    b >= b'0' && b <= b'9'
+// What a word is worth: a number, nothing (it only joins numbers), or it is no word of a call.
+enum Worth {
+    Number(i64),
+    Nothing,
+    Unknown,
 }
 
-fn digit(b: u8) -> u8 {
-    if b < b'0' { 0 } else { b - b'0' }
+// So many numbers, and where the first word is that belongs to no call: the text's end, if there is none.
+pub(crate) struct Found {
+    pub(crate) count: usize,
+    pub(crate) wrong: usize,
 }
 
-// One more digit. A number that no i64 holds need not be exact.
-fn tenfold(n: u64, digit: u8) -> u64 {
-    if n < 1000000000000000000 {
-        n * 10 + digit as u64
-    } else {
-        n
+// A size with its sign, if 64 bits hold it.
+fn signed(negative: bool, n: u64) -> Worth {
+    if n <= 9223372036854775807 {
+        let x = n as i64;
+        return Worth::Number(if negative { -x } else { x });
     }
-}
-
-fn signed(negative: bool, n: u64) -> i64 {
-    if n > 9223372036854775807 {
-        if negative {
-            return -9223372036854775808;
-        }
-        return 9223372036854775807;
+    if negative && n == 9223372036854775808 {
+        return Worth::Number(-9223372036854775808);
     }
-    let x = n as i64;
-    if negative { -x } else { x }
+    Worth::Unknown
 }
 
-// The next number's index, once a number has ended.
-fn past(count: usize, inside: bool) -> usize {
-    if inside {
-        if count < 64 {
-            return count + 1;
-        }
+// One digit at least, and nothing but digits; no size beyond 64 bits.
+fn digits(word: &[u8], negative: bool) -> Worth {
+    if word.len() == 0 {
+        return Worth::Unknown;
     }
-    count
-}
-
-// Writes the numbers, as far as there is room, and says how many there are.
-pub(crate) fn numbers(text: &[u8], out: &mut [i64; 64]) -> usize {
-    let mut count: usize = 0;
     let mut n: u64 = 0;
-    let mut negative = false;
-    let mut inside = false;
     let mut at: usize = 0;
-    while at < text.len() && count < 64 {
-        let b = text[at];
-        if is_digit(b) {
-            n = tenfold(n, digit(b));
-            out[count] = signed(negative, n);
-            inside = true;
-        } else {
-            count = past(count, inside);
-            n = 0;
-            inside = false;
-            negative = b == b'-';
+    while at < word.len() {
+        let b = word[at];
+        if n > 922337203685477580 {
+            return Worth::Unknown;
         }
+        if b < b'0' {
+            return Worth::Unknown;
+        }
+        let digit = b - b'0';
+        if digit > 9 {
+            return Worth::Unknown;
+        }
+        n = n * 10 + digit as u64;
         at += 1;
     }
-    past(count, inside)
+    signed(negative, n)
+}
+
+fn number(word: &[u8]) -> Worth {
+    if word.len() > 0 {
+        if word[0] == b'-' {
+            return digits(&word[1..], true);
+        }
+    }
+    digits(word, false)
+}
+
+fn only_joins(word: &[u8]) -> bool {
+    same(word, b"by")
+        || same(word, b"in")
+        || same(word, b"from")
+        || same(word, b"over")
+        || same(word, b"of")
+        || same(word, b"to")
+}
+
+// A kind stands for how many coordinates it has.
+fn worth_of(word: &[u8]) -> Worth {
+    if only_joins(word) {
+        return Worth::Nothing;
+    }
+    if same(word, b"C3") {
+        return Worth::Number(8);
+    }
+    if same(word, b"C5") {
+        return Worth::Number(12);
+    }
+    number(word)
+}
+
+// Writes the numbers of a text from a place on. There is room for 64.
+pub(crate) fn arguments(text: &[u8], from: usize, out: &mut [i64]) -> Found
+    requires { ⌜ from ≤ length (now text) ⌝ }
+    ensures { λ _. ⌜ length (now (out .exit)) ≡ length (now (out .entry)) ⌝ }
+{
+    let mut count: usize = 0;
+    let mut at = find_gap(text, from, false);
+    while at < text.len() {
+        let end = find_gap(text, at + 1, true);
+        match worth_of(&text[at..end]) {
+            Worth::Number(x) => {
+                if count >= out.len() {
+                    return Found { count, wrong: at };
+                }
+                out[count] = x;
+                count += 1;
+            }
+            Worth::Nothing => (),
+            Worth::Unknown => return Found { count, wrong: at },
+        }
+        at = find_gap(text, end, false);
+    }
+    Found { count, wrong: at }
 }

@@ -3,9 +3,7 @@ ghost use mathlib.Core.Path.{_≡_};
 ghost use Prim.Native.Nat.{_+_, _≤_, _<_};
 ghost use lib.ListN.{length};
 ghost use Rattle.io.specs.Counts.{Counts};
-use crate::words::say;
-use crate::words::say_number;
-use crate::words::wide;
+use crate::words::say_form;
 use whole::size;
 
 // One run from a place on, as far as there is room; where it ends.
@@ -31,17 +29,14 @@ fn byte(x: i64) -> u8 {
     (size(x) % 256) as u8
 }
 
-// The runs that the numbers tell, the first at `first`; where they end.
-pub(crate) fn put_runs(area: &mut [u8], n: &[i64; 64], first: usize, count: usize) -> usize
+// The runs that the numbers tell; where they end.
+pub(crate) fn put_runs(area: &mut [u8], runs: &[i64]) -> usize
     ensures { λ r. ⌜ Counts r (now (area .exit)) ⌝ }
 {
     let mut end: usize = 0;
-    let mut i = first;
-    while i < 63 {
-        if count < i + 2 {
-            return end;
-        }
-        end = put_run(area, end, byte(n[i]), size(n[i + 1]));
+    let mut i: usize = 0;
+    while i + 1 < runs.len() {
+        end = put_run(area, end, byte(runs[i]), size(runs[i + 1]));
         i += 2;
     }
     end
@@ -63,15 +58,15 @@ fn run(bytes: &[u8], from: usize) -> usize
     at - from
 }
 
+fn wide(b: u8) -> i64 {
+    b as i64
+}
+
 pub(crate) fn say_runs(bytes: &[u8]) {
     let mut at: usize = 0;
     while at < bytes.len() {
         let many = run(bytes, at);
-        say(b" (");
-        say_number(wide(bytes[at]));
-        say(b",");
-        say_number(many as u64);
-        say(b")");
+        say_form(b" (#,#)", &[wide(bytes[at]), many as i64]);
         at += many;
     }
 }

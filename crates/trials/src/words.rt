@@ -1,9 +1,5 @@
 // Words and numbers on the standard output.
-ghost use Prim.Native.Nat.{_<_};
-use curve::Curve;
 use libc::STDOUT_FILENO;
-use pair::Pair;
-use refusal::Refusal;
 use whole::size;
 
 pub(crate) fn say(text: &[u8]) {
@@ -14,13 +10,6 @@ pub(crate) fn say_number(n: u64) {
     io::print_decimal(STDOUT_FILENO, n);
 }
 
-// A byte as a number: its bound is what a caller who adds up bytes needs.
-pub(crate) fn wide(b: u8) -> u64
-    ensures { λ r. ⌜ r < 256 ⌝ }
-{
-    b as u64
-}
-
 pub(crate) fn say_signed(x: i64) {
     if x < 0 {
         say(b"-");
@@ -28,39 +17,31 @@ pub(crate) fn say_signed(x: i64) {
     say_number(size(x));
 }
 
-pub(crate) fn say_pair(p: Pair) {
-    say(b"(");
-    say_signed(p.re);
-    say(b",");
-    say_signed(p.im);
-    say(b")");
-}
-
-// The points of a curve.
-pub(crate) fn say_curve(curve: Curve) {
-    match curve {
-        Curve::Cubic(c) => say_four(c.p0, c.p1, c.p2, c.p3),
-        Curve::Quintic(c) => {
-            say_four(c.p0, c.p1, c.p2, c.p3);
-            say(b" ");
-            say_pair(c.p4);
-            say(b" ");
-            say_pair(c.p5);
+// The form, with the next number for each # of it.
+pub(crate) fn say_form(form: &[u8], numbers: &[i64]) {
+    let mut at: usize = 0;
+    let mut next: usize = 0;
+    while at < form.len() {
+        if form[at] != b'#' {
+            say(&form[at..at + 1]);
+        } else if next < numbers.len() {
+            say_signed(numbers[next]);
+            next += 1;
         }
+        at += 1;
     }
 }
 
-fn say_four(a: Pair, b: Pair, c: Pair, d: Pair) {
-    say_pair(a);
-    say(b" ");
-    say_pair(b);
-    say(b" ");
-    say_pair(c);
-    say(b" ");
-    say_pair(d);
-}
-
-pub(crate) fn say_refused(r: Refusal) {
-    say(b"refused ");
-    say_number(wide(refusal::number(r)));
+pub(crate) fn same(word: &[u8], other: &[u8]) -> bool {
+    if word.len() != other.len() {
+        return false;
+    }
+    let mut i: usize = 0;
+    while i < word.len() {
+        if word[i] != other[i] {
+            return false;
+        }
+        i += 1;
+    }
+    true
 }

@@ -12,7 +12,6 @@ pub mod Division
 pub mod Divisor
 pub mod Evens
 pub mod Fill
-pub mod Areas
 pub mod Flags
 pub mod Squares
 mod Examples

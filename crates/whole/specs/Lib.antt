@@ -1,5 +1,4 @@
 -- The definitions of whole numbers and polynomials, and what the routines promise.
-pub mod Area
 pub mod Number
 pub mod Poly
 pub mod Quotients

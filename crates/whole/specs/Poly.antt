@@ -1,5 +1,6 @@
 -- Polynomials, as lists of coefficients from the constant upward. A list may end in zeros: two lists are the same polynomial where they
 -- agree at every power. The coefficients are any type with a zero, a sum and a product, so that one text serves whole numbers and pairs.
+--   Coefficients                 that zero, sum and product
 --   at, Same                     a coefficient, 0 past the end; the same polynomial
 --   sum, scaled, product, square
 --   Divides, Greatest            d divides x; c is a greatest common divisor of a list

@@ -1,11 +1,10 @@
-// Whole numbers: exact and nearest quotients, square roots, common divisors, and the clearing of a lent area.
+// Whole numbers: exact and nearest quotients, square roots, and common divisors.
 ghost use mathlib.Core.Path.{_≡_};
 ghost use mathlib.Core.List.{_∷_, []};
 ghost use mathlib.Core.Logic.{_≢_};
 ghost use Prim.Native.Nat.{_%_};
 ghost use lib.IntN.{pos, natAbs, _*ℤ_};
 ghost use lib.Signed.{_<ℤ_};
-ghost use Rattle.whole.specs.Area.{Cleared};
 ghost use Rattle.whole.specs.Number.{wholes, Within};
 ghost use Rattle.whole.specs.Poly.{Greatest};
 ghost use Rattle.whole.specs.Quotients.{Divisible, IsQuotient, Shares, Nearest, OddPart};
@@ -178,15 +177,4 @@ pub fn gcd_all(numbers: &[i64]) -> u64
         i += 1;
     }
     g
-}
-
-// Every number of the area is 0 afterwards.
-pub fn clear(area: &mut [i64])
-    ensures { λ r. ⌜ Cleared (now (area .entry)) (now (area .exit)) ⌝ }
-{
-    let mut i: usize = 0;
-    while i < area.len() {
-        area[i] = 0;
-        i += 1;
-    }
 }

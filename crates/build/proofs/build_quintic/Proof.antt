@@ -6,7 +6,7 @@ use Rattle.whole.specs.Number.{Tells}
 use Rattle.whole.proofs.Flags.{told, untold}
 use Rattle.pair.specs.declared.Pair.{Pair}
 use Rattle.pair.specs.Pairs.{multiple}
-use Rattle.build.specs.Builds.{Source, quintic, given, thrice, Allowed}
+use Rattle.build.specs.Builds.{Source, quintic, pairsOf, thrice, Allowed}
 use Rattle.build.specs.Steps.{IsThird}
 use Rattle.build.proofs.Sizes.{thrice-within, third-within}
 use Rattle.build.proofs.Legs.{third-found}
@@ -33,7 +33,7 @@ returns c = let b = c .before .before in refused-range (p0 b) (s b) (untold (c .
 all-zero-requires : tie.Need-all-zero-requires
 all-zero-requires c κs = search needs
 
-is-allowed : (c : tie.Else1) → Allowed (p0 (c .before .before)) (given (s (c .before .before)))
+is-allowed : (c : tie.Else1) → Allowed (p0 (c .before .before)) (pairsOf (s (c .before .before)))
 is-allowed c = told (c .before .allowed .result) (c .before .allowed .ensures) (c .if1 .left)
 
 returns-2 : tie.Need-returns-2
@@ -47,7 +47,11 @@ thrice-middle-requires c κs = let a = is-allowed (c .before .before) in (a .1 0
 third-requires : tie.Need-third-requires
 third-requires c κs = search needs
 
-third-is : (c : tie.After-third) → IsThird (t (c .before .before .before .before .before .before)) (c .third .result)
+-- the start of the function, from where w is allowed and not zero
+abbrev o : tie.Else2 → tie.Start
+o c = c .before .before .before .before
+
+third-is : (c : tie.After-third) → IsThird (t (o (c .before .before))) (c .third .result)
 third-is c = subst (λ (x : Pair). IsThird x (c .third .result)) (c .before .thrice-middle .ensures) (c .third .ensures)
 
 enum-known-d2 : tie.Need-enum-known-d2
@@ -60,18 +64,21 @@ returns-3 : tie.Need-returns-3
 returns-3 c =
     let h = c .before .before in
     let e = h .before .before in
-    let b = e .before .before .before .before in
+    let b = o e in
     refused-thirds (p0 b) (s b) (is-allowed (e .before .before)) (subst (Tells _) (e .if2 .left) (e .before .all-zero .ensures)) (subst (IsThird _) (c .enum-told .given .1) (third-is h))
 
 abbrev d2 : tie.After-known-told → Pair
 d2 c = c .before .d2 .given .0 .0
 
-middle : (c : tie.After-known-told) → multiple (pos 3) (d2 c) ≡ t (c .before .before .before .before .before .before .before .before .before)
+abbrev passed : tie.After-known-told → tie.Else2
+passed c = c .before .before .before .before .before
+
+middle : (c : tie.After-known-told) → multiple (pos 3) (d2 c) ≡ t (o (passed c))
 middle c = subst (IsThird _) (c .before .d2 .given .1) (third-is (c .before .before .before))
 
 quintic-points-requires : tie.Need-quintic-points-requires
 quintic-points-requires c κs =
-    let a = is-allowed (c .before .before .before .before .before .before .before) in
+    let a = is-allowed (passed c .before .before) in
     (a .0, a .1 0, a .1 1, a .1 2, third-within (middle c) (thrice-within (a .1 0) (a .1 1) (a .1 2)))
 
 ranged-requires : tie.Need-ranged-requires
@@ -80,8 +87,8 @@ ranged-requires c κs = search needs
 returns-4 : tie.Need-returns-4
 returns-4 c =
     let d = c .before .before in
-    let e = d .before .before .before .before .before in
-    let b = e .before .before .before .before in
+    let e = passed d in
+    let b = o e in
     answered (p0 b) (s b) (is-allowed (e .before .before)) (subst (Tells _) (e .if2 .left) (e .before .all-zero .ensures)) (third-found (d2 d) (middle d)) _ (d2 d, middle d, refl) _
     (c .before .quintic-points .ensures) (c .ranged .result) (c .ranged .ensures)
 

@@ -1,7 +1,6 @@
 -- `build::ranged` meets its contract.
 use mathlib.Core.Path.{refl, subst}
 use mathlib.Core.Logic.{inl, inr}
-use native.Mathlib.Omega.{arith}
 use borrow.Author.Needs.{needs}
 use Rattle.whole.specs.Number.{Tells}
 use Rattle.build.proofs.ranged.Statement.{statement}
@@ -11,10 +10,10 @@ in-range-requires : tie.Need-in-range-requires
 in-range-requires c κs = search needs
 
 returns : tie.Need-returns
-returns c = record { refusal = inr (λ n. n (subst (Tells _) (c .if1 .taken) (c .before .in-range .ensures)), refl); built = λ e. refl }
+returns c = (inr (λ n. n (subst (Tells _) (c .if1 .taken) (c .before .in-range .ensures)), refl), refl)
 
 returns-2 : tie.Need-returns-2
-returns-2 c = record { refusal = inl (subst (Tells _) (c .if1 .left) (c .before .in-range .ensures), refl); built = λ e. absurd (omega arith) }
+returns-2 c = (inl (subst (Tells _) (c .if1 .left) (c .before .in-range .ensures), refl), refl)
 
 pub ranged-spec : {M : Type 1} → statement M
 ranged-spec = tie.close (tie.spec in-range-requires returns returns-2)

@@ -49,7 +49,8 @@ enum-told-2 c = search needs
 
 returns-2 : tie.Need-returns-2
 returns-2 c =
-    let s = c .before .before .before .before .before .before .before in
+    let u = c .before .before .before .before in
+    let s = u .before .before .before in
     inr (λ h. subst (IsQuotient _ _) (c .enum-told2 .given .1) (c .before .before .quotient2 .ensures) (subst (Divides wholes (pos 3)) (sym (y-is s)) h))
 
 returns-3 : tie.Need-returns-3

@@ -1,9 +1,10 @@
 -- `divisor::nearest` meets its contract: what the calls hand on are the parts of a conj(b), and |b|².
-use mathlib.Core.Path.{_≡_, ap, _∙_}
+use mathlib.Core.Path.{_≡_, ap, _∙_, subst₂}
 use borrow.Author.Needs.{needs}
 use mir.Syntax.{w64}
 use mir.Val.{toZ, ofZ}
 use mir.ValLaws.{toZ-ofZ}
+use Rattle.whole.specs.Quotients.{Nearest}
 use Rattle.pair.specs.declared.Pair.{Pair}
 use Rattle.pair.specs.Pairs.{times, conjugate, norm}
 use Rattle.pair.proofs.Laws.{norm-some}
@@ -42,8 +43,8 @@ returns : tie.Need-returns
 returns c =
     let t = c .before .before in
     record {
-      re = rw (toZ-ofZ w64 (c .before .nearest .result) (search needs)) (rw (x-is t, d-is t) at (c .before .nearest .ensures));
-      im = rw (toZ-ofZ w64 (c .nearest2 .result) (search needs)) (rw (y-is t, d-is t) at (c .nearest2 .ensures));
+      re = rw (toZ-ofZ w64 (c .before .nearest .result) (search needs)) (subst₂ (λ n d. Nearest n d (c .before .nearest .result)) (x-is t) (d-is t) (c .before .nearest .ensures));
+      im = rw (toZ-ofZ w64 (c .nearest2 .result) (search needs)) (subst₂ (λ n d. Nearest n d (c .nearest2 .result)) (y-is t) (d-is t) (c .nearest2 .ensures));
     }
 
 pub nearest-spec : {M : Type 1} → statement M

@@ -70,7 +70,8 @@ enum-told-2 c = search needs
 
 returns-2 : tie.Need-returns-2
 returns-2 c h =
-    let t = c .before .before .before .before .before .before .before in
+    let u = c .before .before .before .before in
+    let t = u .before .before .before in
     subst (IsQuotient _ _) (c .enum-told2 .given .1) (c .before .before .quotient2 .ensures) (record { factor = h .factor .im; is = rw (y-is t, d-is t) (divides-over (a t) (b t) (h .factor) (h .is) .1) })
 
 returns-3 : tie.Need-returns-3

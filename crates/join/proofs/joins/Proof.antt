@@ -5,16 +5,17 @@ use mathlib.Core.Logic.{inl, inr}
 use Prim.Native.Nat.{_≤_}
 use native.Mathlib.Omega.{arith}
 use borrow.Author.Needs.{needs}
-use lib.IntN.{ℤ, pos}
-use lib.ListN.{length, length-replicate}
+use lib.IntN.{ℤ}
+use lib.ListN.{length}
 use Rattle.refusal.specs.declared.Refusal.{Refusal}
 use Rattle.refusal.specs.declared.Refusal.the-variants as R
 use Rattle.refusal.specs.Table.{First, numberOf}
-use Rattle.refusal.proofs.Laws.{number-positive}
-use Rattle.whole.specs.Area.{Cleared}
+use Rattle.refusal.specs.Answers.{given}
 use Rattle.whole.specs.Number.{Tells}
 use Rattle.whole.proofs.Flags.{told, untold}
-use Rattle.whole.proofs.Areas.{fills-rest, fills-none}
+use Rattle.area.specs.Area.{Cleared}
+use Rattle.area.proofs.Areas.{fills-rest}
+use Rattle.area.proofs.Promises.{refused-in}
 use Rattle.pair.specs.declared.Pair.{Pair}
 use Rattle.join.specs.declared.JoinAnswer.{JoinAnswer}
 use Rattle.join.specs.declared.JoinAnswer.the-variants as answers
@@ -25,13 +26,8 @@ use Rattle.join.proofs.joins.Tie as tie
 
 -- a refusal clears the area
 shut : (a z T : Pair) (before after : List ℤ) (r : Refusal) (s : JoinAnswer) → Cleared before after × (s ≡ answers.Refused r)
-    → First (causes a z T (length before)) (numberOf r) → Joined a z T (length before) after s
-shut a z T before after r s (e, f) h = subst (Joined a z T (length before) after) (sym f) (record {
-  refusal = h;
-  same-room = ap length e ∙ length-replicate (length before) (pos 0);
-  cleared = λ n. fills-none before e;
-  listed = λ n. absurd (omega (arith, number-positive r));
-})
+    → First (causes a z T (length before)) (numberOf r) → Joined a z T before after s
+shut a z T before after r s (e, f) h = subst (Joined a z T before after) (sym f) (refused-in r h e)
 
 in-range-requires : tie.Need-in-range-requires
 in-range-requires c κs = search needs
@@ -125,15 +121,11 @@ returns-4 c =
     let behind : k ≡ length (numbers (w .triples)) = omega (arith, w .next-is, numbers-length (w .triples)) in
     let start = w .begins [] refl (s .args .area .now, refl) in
     record {
-      refusal = inr (λ n. n (ranged (f .before .before)), inr (alive f, inr (λ h. let l : 24 ≤ length (s .args .area .now) = e .if3 .left in omega (arith, h), refl)));
+      answer = given (w .triples);
+      first-or = (inr (λ n. n (ranged (f .before .before)), inr (alive f, inr (λ h. let l : 24 ≤ length (s .args .area .now) = e .if3 .left in omega (arith, h), refl))), w .lists);
+      counts = ap given (omega (arith, w .next-is));
       same-room = c .area5 .given .1 ∙ w .same-room;
-      cleared = λ n. absurd (n refl);
-      listed = λ n. record {
-        triples = w .triples;
-        all = w .lists;
-        counted = omega (arith, w .next-is);
-        filled = fills-rest k (numbers (w .triples)) (start .0) (p .put-all .last .0) (c .before .clear .last .0) behind (start .1) (c .before .clear .ensures);
-      };
+      fills = fills-rest k (numbers (w .triples)) (start .0) (p .put-all .last .0) (c .before .clear .last .0) behind (start .1) (c .before .clear .ensures);
     }
 
 pub joins-spec : {M : Type 1} → statement M

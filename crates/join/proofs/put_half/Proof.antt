@@ -119,7 +119,10 @@ returns-2 c =
     (rw (low-is d) at (q .put-quarter .ensures))
 
 difference-requires-2 : tie.Need-difference-requires-2
-difference-requires-2 c κs = let k = c .before .before .before .before .before .before .before in (wider (omega arith) (δ-within k), wider (omega arith) (s-within (t k)))
+difference-requires-2 c κs =
+    let q = c .before .before .before in
+    let k = q .before .before .before .before in
+    (wider (omega arith) (δ-within k), wider (omega arith) (s-within (t k)))
 
 put-quarter-requires-2 : tie.Need-put-quarter-requires-2
 put-quarter-requires-2 c κs = search needs

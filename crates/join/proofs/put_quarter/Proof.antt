@@ -59,7 +59,8 @@ enum-told-2 c = search needs
 
 returns-2 : tie.Need-returns-2
 returns-2 c =
-    let t = c .before .before .before .before .before .before .before in
+    let d = c .before .before .before in
+    let t = d .before .before .before .before in
     writes-none (λ w h. subst (IsQuotient _ _) (c .enum-told2 .given .1) (c .before .before .quotient2 .ensures)
     (record { factor = w .w1 .im; is = ap (λ (p : Pair). p .im) (h .middle) ∙ sym (y-is t) }))
 

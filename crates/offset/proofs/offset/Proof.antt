@@ -1,5 +1,5 @@
 -- `offset::offset` meets its contract.
-use mathlib.Core.Path.{_≡_, refl, subst}
+use mathlib.Core.Path.{_≡_, subst}
 use borrow.Author.Needs.{needs}
 use mir.Syntax.{w64}
 use mir.Val.{toZ, ofZ}
@@ -26,7 +26,7 @@ found c =
     subst (Denominated (o .args .curve) (o .args .h)) (c .before .before .w .given .1) (rw (h-kept o) at (c .before .before .before .before .denominator-of .ensures))
 
 put-offset-requires : tie.Need-put-offset-requires
-put-offset-requires c κs = rw (h-kept (c .before .before .before .before .before)) (found c .gives refl .asked)
+put-offset-requires c κs = rw (h-kept (c .before .before .before .before .before)) (found c .1 .asked)
 
 enum-known-r : tie.Need-enum-known-r
 enum-known-r c = search needs
@@ -51,7 +51,7 @@ returns-2 c =
     let k = c .before .before .before .before in
     let o = k .before .before .before in
     let refused = subst (Denominated (o .args .curve) (o .args .h)) (k .r .given .1) (rw (h-kept o) at (k .before .before .denominator-of .ensures)) in
-    offset-refused (o .args .curve) (o .args .h) (k .r .given .0 .0) (o .args .area .now) (c .before .clear .last .0) refused (c .before .clear .ensures) (same-length-2 c)
+    offset-refused (o .args .curve) (o .args .h) (k .r .given .0 .0) (o .args .area .now) (c .before .clear .last .0) refused (c .before .clear .ensures)
 
 pub offset-spec : {M : Type 1} → statement M
 offset-spec =

@@ -10,7 +10,10 @@ use lib.ListN.{length, take, drop}
 use lib.Seq.{length-take-le}
 use mir.Syntax.{w64}
 use mir.ValLaws.{toZ-ofZ}
-use Rattle.whole.proofs.Areas.{fills-none, fills-rest}
+use Rattle.refusal.specs.declared.Refusal.the-variants as R
+use Rattle.refusal.specs.Answers.{given}
+use Rattle.area.proofs.Areas.{fills-rest}
+use Rattle.area.proofs.Promises.{refused-in}
 use Rattle.root.specs.Roots.{quartic}
 use Rattle.curve.specs.Curves.{pointsOf}
 use Rattle.offset.specs.Offsets.{degreeOf, offsetCurve, offsetNumbers}
@@ -34,13 +37,7 @@ same-length c = search needs
 returns : tie.Need-returns
 returns c =
     let k = c .before .before .before in
-    let o = k .before .before in
-    record {
-      refusal = inl (omega (arith, k .if1 .taken, k .before .points-of .ensures), refl);
-      same-room = same-length c;
-      cleared = λ n. fills-none (o .args .area .now) (c .before .clear .ensures);
-      written = λ e. absurd (omega arith);
-    }
+    refused-in R.Room (inl (omega (arith, k .if1 .taken, k .before .points-of .ensures), refl)) (c .before .clear .ensures)
 
 rows-requires : tie.Need-rows-requires
 rows-requires c κs = search needs
@@ -100,6 +97,12 @@ part-clear-end c = search needs
 clear-requires-2 : tie.Need-clear-requires-2
 clear-requires-2 c κs = search needs
 
+cast-t21 : tie.Need-cast-t21
+cast-t21 c =
+    let t = c .before .before .before .before in
+    let k = t .before .before in
+    omega (arith, points-are k, few-points (o k .args .curve))
+
 same-length-2 : tie.Need-same-length-2
 same-length-2 c = search needs
 
@@ -111,14 +114,16 @@ returns-2 c =
     let vs = offsetNumbers (s .curve) (offsetCurve (pointsOf (s .curve)) (quartic (s .w)) (s .h)) in
     let rest = drop (3 * points k) (area k) in
     let is : t .put-points .last .0 ≡ vs = t .put-points .ensures ∙ rows-numbers (s .curve) (k .rows .result) (made k) (points-are k) in
+    let many : 3 * points k ≡ length vs = sym (t .put-points .kept .0 ∙ start-long k) ∙ ap length is in
     record {
-      refusal = inr (λ l. omega (arith, room k, points-are k), refl);
+      answer = given vs;
+      first-or = (inr (λ l. omega (arith, room k, points-are k), refl), refl);
+      counts = ap given many;
       same-room = same-length-2 c;
-      cleared = λ n. absurd (n refl);
-      written = λ e. fills-rest (3 * points k) vs rest (t .put-points .last .0 ++ rest) (c .before .clear2 .last .0) (sym (t .put-points .kept .0 ∙ start-long k) ∙ ap length is) (ap (λ (us : List ℤ). us ++ rest) is) (c .before .clear2 .ensures);
+      fills = fills-rest (3 * points k) vs rest (t .put-points .last .0 ++ rest) (c .before .clear2 .last .0) many (ap (λ (us : List ℤ). us ++ rest) is) (c .before .clear2 .ensures);
     }
 
 pub put-offset-spec : {M : Type 1} → statement M
 put-offset-spec =
     tie.close
-    (tie.spec points-of-requires mul-size clear-requires same-length returns rows-requires slice-relend-prefix-put-points slice-aggregate-put-points put-points-requires mul-clear sub-clear part-clear-start part-clear-end clear-requires-2 same-length-2 returns-2)
+    (tie.spec points-of-requires mul-size clear-requires same-length returns rows-requires slice-relend-prefix-put-points slice-aggregate-put-points put-points-requires mul-clear sub-clear part-clear-start part-clear-end clear-requires-2 cast-t21 same-length-2 returns-2)

@@ -1,8 +1,8 @@
 -- `report_of` meets its contract: there is room for every report.
 use borrow.Author.Needs.{needs}
 use mathlib.Core.Path.{subst}
-use Rattle.report_text.specs.Reports.{Reported}
-use Rattle.report_text.proofs.Reported.{written-is}
+use Rattle.report_text.specs.Promise.{Reported}
+use Rattle.text.proofs.Held.{written-is}
 use Rattle.report_text.proofs.Short.{room-enough}
 use Rattle.report.proofs.report_of.Statement.{statement}
 use Rattle.report.proofs.report_of.Tie as tie
@@ -23,7 +23,7 @@ returns : tie.Need-returns
 returns c =
     let s = c .before .before .before .before .before .before .before .before .before .args in
     let t = c .before .before .before .before .before .write-report .last .1 .0 in
-    written-is (s .sheet .now) (s .text .now) t (c .before .end .given .0 .0)
+    written-is (s .text .now) t (c .before .end .given .0 .0)
     (subst (Reported (s .sheet .now) (s .text .now) t) (c .before .end .given .1) (c .before .before .before .before .before .write-report .ensures))
 
 same-length-2 : tie.Need-same-length-2

@@ -1,98 +1,105 @@
--- `append` meets its contract: the walk, then the curve at the place where its records end.
+-- `append` meets its contract: the walk says where the erased tail begins.
 use borrow.Author.Needs.{needs}
-use mathlib.Core.Path.{refl, ap, subst}
-use mathlib.Core.List.{[], _∷_}
-use native.Mathlib.Omega.{arith}
+use mathlib.Core.Path.{_≡_, sym, _∙_, subst}
+use mathlib.Core.List.{List}
+use Prim.Native.Nat.{ℕ, _≤_}
 use lib.ListN.{length}
-use Rattle.sheet.specs.Inner.{Walked, Lists}
-use Rattle.sheet.proofs.Appended.{append-fault, append-at-end}
+use Rattle.curve.specs.declared.Curve.{Curve}
+use Rattle.curve.specs.Curves.{pointsOf}
+use Rattle.record.specs.declared.writes.Put.{Put}
+use Rattle.record.specs.Kinds.{kindOf, numbersOf}
+use Rattle.record.specs.Promise.{PutsAt}
+use Rattle.sheet.specs.declared.walks.Ending.the-variants.{Sound}
+use Rattle.sheet.specs.Survey.{survey}
+use Rattle.sheet.proofs.Changed.{append-done, append-refused}
+use Rattle.sheet.proofs.Appended.{append-fault, append-sound}
 use Rattle.sheet.proofs.append.Statement.{statement}
 use Rattle.sheet.proofs.append.Tie as tie
 
 walk-requires : tie.Need-walk-requires
 walk-requires c κs = search needs
 
+enum-told : tie.Need-enum-told
+enum-told c = search needs
+
+put-curve-requires : tie.Need-put-curve-requires
+put-curve-requires c κs = search needs
+
+-- what was put at the end of the records of a sound sheet
+module _ (c : tie.After-put-curve) where
+  abbrev told : tie.After-enum-told
+  told = c .before .before
+
+  abbrev start : tie.Start
+  start = let walked = told .before .before in walked .before .before .before
+
+  abbrev sheet : List ℕ
+  sheet = start .args .sheet .now
+
+  abbrev curve : Curve
+  curve = start .args .curve
+
+  sound : survey sheet .ending ≡ Sound
+  sound = sym (told .before .before .walk .ensures .ending-is) ∙ told .enum-told .given .1
+
+  fits : survey sheet .end ≤ length sheet
+  fits = let h = told .before .before .walk .ensures in subst (λ (n : ℕ). n ≤ length sheet) (h .end-is) (h .end-fits)
+
+  puts : {r : Put} → c .put-curve .result ≡ r → PutsAt sheet (survey sheet .end) (kindOf curve) (numbersOf (pointsOf curve)) (c .put-curve .last .0) r
+  puts e =
+      subst (PutsAt sheet (survey sheet .end) (kindOf curve) (numbersOf (pointsOf curve)) (c .put-curve .last .0)) e
+      (subst (λ (n : ℕ). PutsAt sheet n (kindOf curve) (numbersOf (pointsOf curve)) (c .put-curve .last .0) (c .put-curve .result)) (told .before .before .walk .ensures .end-is)
+      (c .put-curve .ensures))
+
+enum-told-2 : tie.Need-enum-told-2
+enum-told-2 c = search needs
+
 enum-known-r : tie.Need-enum-known-r
 enum-known-r c = search needs
 
-enum-known-l : tie.Need-enum-known-l
-enum-known-l c = search needs
+nowhere-requires : tie.Need-nowhere-requires
+nowhere-requires c κs = search needs
 
--- what the walk found, where it found the sheet sound
-listed : (c : tie.After-known-told2) → Lists (c .before .before .before .before .before .before .args .sheet .now) 0 (c .before .l .given .0 .0)
-listed c = subst (Walked (c .before .before .before .before .before .before .args .sheet .now) 0) (c .before .l .given .1) (c .before .before .before .walk .ensures)
-
-enum-known-curve : tie.Need-enum-known-curve
-enum-known-curve c = search needs
-
-cubic-numbers-requires : tie.Need-cubic-numbers-requires
-cubic-numbers-requires c κs = search needs
-
-slice-aggregate-append-at : tie.Need-slice-aggregate-append-at
-slice-aggregate-append-at c = search needs
-
-append-at-requires : tie.Need-append-at-requires
-append-at-requires c κs = (listed (c .before .before .before .before .before .before .before) .end-fits, omega (arith, ap length (c .before .before .before .cubic-numbers .ensures)), refl)
-
-enum-known-curve-2 : tie.Need-enum-known-curve-2
-enum-known-curve-2 c = search needs
-
-quintic-numbers-requires : tie.Need-quintic-numbers-requires
-quintic-numbers-requires c κs = search needs
-
-slice-aggregate-append-at-2 : tie.Need-slice-aggregate-append-at-2
-slice-aggregate-append-at-2 c = search needs
-
-append-at-requires-2 : tie.Need-append-at-requires-2
-append-at-requires-2 c κs = (listed (c .before .before .before .before .before .before .before) .end-fits, omega (arith, ap length (c .before .before .before .quintic-numbers .ensures)), refl)
+enum-known-ending : tie.Need-enum-known-ending
+enum-known-ending c = search needs
 
 same-length : tie.Need-same-length
 same-length c = search needs
 
 returns : tie.Need-returns
 returns c =
-    let s = c .before .before .before .before .before .before in
-    append-fault (s .args .sheet .now) (s .args .curve) (subst (Walked (s .args .sheet .now) 0) (c .before .r .given .1) (c .before .before .before .walk .ensures))
+    let put = c .before .before .before .before in
+    append-sound (sheet put) (curve put) (sound put) (fits put) (append-done (sheet put) (curve put) (sound put) (puts put (c .enum-told2 .given .1)))
 
 same-length-2 : tie.Need-same-length-2
 same-length-2 c = search needs
 
 returns-2 : tie.Need-returns-2
 returns-2 c =
-    let k = c .before .before .before .before .before .before .before .before .before .before in
-    let s = k .before .before .before .before .before .before in
-    let r = c .before .before .append-at in
-    append-at-end (s .args .sheet .now) (67 ∷ 51 ∷ [])
-    (c .before .before .before .before .before .before .before .before .curve .given .1) refl (c .before .before .before .before .before .before .cubic-numbers .ensures)
-    (listed k) (r .ensures)
+    let refused = c .before .before in
+    let put = refused .before .before .before .before in
+    append-sound (sheet put) (curve put) (sound put) (fits put) (append-refused (sheet put) (curve put) (sound put) (puts put (refused .r .given .1)) (c .nowhere .ensures))
 
 same-length-3 : tie.Need-same-length-3
 same-length-3 c = search needs
 
 returns-3 : tie.Need-returns-3
 returns-3 c =
-    let k = c .before .before .before .before .before .before .before .before .before .before in
-    let s = k .before .before .before .before .before .before in
-    let r = c .before .before .append-at2 in
-    append-at-end (s .args .sheet .now) (67 ∷ 53 ∷ [])
-    (c .before .before .before .before .before .before .before .before .curve2 .given .1) refl (c .before .before .before .before .before .before .quintic-numbers .ensures)
-    (listed k) (r .ensures)
+    let walked = c .before .before .before in
+    let start = walked .before .before .before in
+    append-fault (start .args .sheet .now) (start .args .curve) (sym (walked .walk .ensures .ending-is) ∙ c .before .ending .given .1)
 
 pub append-spec : {M : Type 1} → statement M
 append-spec =
     tie.close
     (tie.spec
     walk-requires
+    enum-told
+    put-curve-requires
+    enum-told-2
     enum-known-r
-    enum-known-l
-    enum-known-curve
-    cubic-numbers-requires
-    slice-aggregate-append-at
-    append-at-requires
-    enum-known-curve-2
-    quintic-numbers-requires
-    slice-aggregate-append-at-2
-    append-at-requires-2
+    nowhere-requires
+    enum-known-ending
     same-length
     returns
     same-length-2

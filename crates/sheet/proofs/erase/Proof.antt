@@ -6,7 +6,7 @@ use mathlib.Core.List.{List, _++_}
 use Prim.Native.Nat.{ℕ, _-_, _≤_}
 use native.Mathlib.Omega.{arith}
 use lib.ListN.{length, drop, set, replicate, length-set}
-use Rattle.sheet.proofs.Pieces.{erase-long, erase-short}
+use Rattle.sheet.proofs.Changed.{erase-long, erase-short}
 use Rattle.sheet.proofs.erase.Statement.{statement}
 use Rattle.sheet.proofs.erase.Tie as tie
 
@@ -16,8 +16,11 @@ Inv-loop sheet₀ i₀ sheet i = (sheet ≡ replicate i 255 ++ drop i sheet₀) 
 abbrev μ-loop : tie.MeasureT-loop
 μ-loop sheet₀ i₀ sheet i = length sheet₀ - i
 
+nowhere-requires : tie.Need-nowhere-requires Inv-loop μ-loop
+nowhere-requires c κs = search needs
+
 returns : tie.Need-returns Inv-loop μ-loop
-returns c = erase-long _ (c .if1 .taken)
+returns c = erase-long _ (c .before .if1 .taken) (c .nowhere .ensures)
 
 loop-holds : tie.Need-loop-holds Inv-loop μ-loop
 loop-holds c = (fill-none _ 255, refl, omega arith)
@@ -35,7 +38,7 @@ loop-again : tie.Need-loop-again Inv-loop μ-loop
 loop-again c =
     let i = c .before .loop .i in
     let v = c .before .loop .inv in
-    let s₀ = c .before .before .before .args .sheet .now in
+    let s₀ = c .before .before .before .before .args .sheet .now in
     (ap (λ (l : List ℕ). set l i 255) (v .0) ∙ fill-more i 255 s₀ (omega arith), simp length-set (v .1), omega arith)
 
 same-length : tie.Need-same-length Inv-loop μ-loop
@@ -45,4 +48,4 @@ returns-2 : tie.Need-returns-2 Inv-loop μ-loop
 returns-2 c = erase-short _ (c .before .loop .i) (c .before .before .if1 .left) (omega arith) (c .before .loop .inv .0)
 
 pub erase-spec : {M : Type 1} → statement M
-erase-spec = tie.close (tie.spec Inv-loop μ-loop returns loop-holds slice-write-sheet add-i loop-less loop-again same-length returns-2)
+erase-spec = tie.close (tie.spec Inv-loop μ-loop nowhere-requires returns loop-holds slice-write-sheet add-i loop-less loop-again same-length returns-2)

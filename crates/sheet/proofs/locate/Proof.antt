@@ -1,41 +1,37 @@
--- `locate` meets its contract: where the record that the walk remembered stands.
+-- `locate` meets its contract: the walk remembers where the curve stands.
 use borrow.Author.Needs.{needs}
-use mathlib.Core.Path.{sym, ap, subst}
-use Rattle.sheet.specs.Sheets.{placed}
-use Rattle.sheet.specs.Inner.{Walked, Lists}
-use Rattle.sheet.proofs.Chosen.{none-placed, one-placed}
+use Rattle.sheet.proofs.Told.{forward, none-located, one-located, located-faulty}
 use Rattle.sheet.proofs.locate.Statement.{statement}
 use Rattle.sheet.proofs.locate.Tie as tie
 
 walk-requires : tie.Need-walk-requires
 walk-requires c κs = search needs
 
-enum-known-r : tie.Need-enum-known-r
-enum-known-r c = search needs
+enum-told : tie.Need-enum-told
+enum-told c = search needs
 
-enum-known-l : tie.Need-enum-known-l
-enum-known-l c = search needs
-
--- what the walk found, where it found the sheet sound
-listed : (c : tie.After-known-told2) → Lists (c .before .before .before .before .before .args .sheet .now) (c .before .before .before .before .before .args .number) (c .before .l .given .0 .0)
-listed c =
-    subst (Walked (c .before .before .before .before .before .args .sheet .now) (c .before .before .before .before .before .args .number))
-    (c .before .l .given .1) (c .before .before .before .walk .ensures)
+nowhere-requires : tie.Need-nowhere-requires
+nowhere-requires c κs = search needs
 
 returns : tie.Need-returns
-returns c = sym (none-placed (listed (c .before)) (c .if1 .taken))
+returns c =
+    let tested = c .before in
+    let w = tested .before .before .before .walk in
+    none-located (w .ensures) (tested .before .enum-told .given .1) (tested .if1 .taken) (c .nowhere .ensures)
 
 sub-length : tie.Need-sub-length
-sub-length c = listed (c .before) .forward
+sub-length c = forward (c .before .before .before .walk .ensures)
+
+enum-known-ending : tie.Need-enum-known-ending
+enum-known-ending c = search needs
 
 returns-2 : tie.Need-returns-2
-returns-2 c =
-    let s = c .before .before .before .before .before .args .sheet .now in
-    let n = c .before .before .before .before .before .args .number in
-    sym (ap (placed n) (subst (Walked s n) (c .before .r .given .1) (c .before .before .before .walk .ensures)))
+returns-2 c = let w = c .before .before .before .walk in one-located (w .ensures) (c .before .enum-told .given .1) (c .if1 .left)
 
 returns-3 : tie.Need-returns-3
-returns-3 c = sym (one-placed (listed (c .before)) (c .if1 .left))
+returns-3 c = located-faulty (c .before .before .before .walk .ensures) (c .before .ending .given .1)
 
 pub locate-spec : {M : Type 1} → statement M
-locate-spec = tie.close (tie.spec walk-requires enum-known-r enum-known-l returns sub-length returns-2 returns-3)
+locate-spec =
+    tie.close
+    (tie.spec walk-requires enum-told nowhere-requires returns sub-length enum-known-ending returns-2 returns-3)

@@ -1,57 +1,97 @@
--- `read` meets its contract: the points of the record that the walk remembered.
+-- `read` meets its contract: the curve's record is located, and its bytes hold the curve.
 use borrow.Author.Needs.{needs}
-use mathlib.Core.Path.{sym, ap, subst}
+use mathlib.Core.Path.{_≡_, sym, ap, _∙_, subst}
 use mathlib.Core.List.{List}
-use Prim.Native.Nat.{ℕ, _-_}
-use Rattle.sheet.specs.Sheets.{Answer, with-given, chosen, pointsIn}
-use Rattle.sheet.specs.Promises.{Locates}
-use Rattle.sheet.specs.Inner.{Walked, Lists}
-use Rattle.sheet.specs.declared.Location.the-variants as location
-use Rattle.sheet.proofs.Chosen.{none-chosen, one-placed}
+use Prim.Native.Nat.{ℕ}
+use native.Mathlib.Omega.{arith}
+use lib.ListN.{drop}
+use Rattle.record.specs.declared.points.Held.{Held}
+use Rattle.record.specs.Promise.{IsHeld}
+use Rattle.sheet.specs.Promise.{Locates}
+use Rattle.sheet.proofs.Passed.{rest-is}
+use Rattle.sheet.proofs.Places.{Stands, stands, fits, held-curve, held-nothing}
+use Rattle.sheet.proofs.Told.{refused-read}
 use Rattle.sheet.proofs.read.Statement.{statement}
 use Rattle.sheet.proofs.read.Tie as tie
 
-walk-requires : tie.Need-walk-requires
-walk-requires c κs = search needs
+locate-requires : tie.Need-locate-requires
+locate-requires c κs = search needs
 
-enum-known-r : tie.Need-enum-known-r
-enum-known-r c = search needs
+enum-known-place : tie.Need-enum-known-place
+enum-known-place c = search needs
 
-enum-known-l : tie.Need-enum-known-l
-enum-known-l c = search needs
+-- where the record stands
+module _ (c : tie.After-known-told) where
+  abbrev start : tie.Start
+  start = let located = c .before .before .before in located .before .before
 
--- what the walk found, where it found the sheet sound
-module _ (c : tie.After-known-told2) where
-  abbrev sheet : List ℕ
-  sheet = c .before .before .before .before .before .args .sheet .now
+  abbrev place : ℕ
+  place = c .before .place .given .0 .0
 
-  abbrev number : ℕ
-  number = c .before .before .before .before .before .args .number
+  here : Stands (start .args .sheet .now) (start .args .number) place (c .before .place .given .0 .1 .0)
+  here = stands _ _ _ _ (subst (Locates (start .args .sheet .now) (start .args .number)) (c .before .place .given .1) (c .before .before .before .locate .ensures))
 
-  listed : Lists sheet number (c .before .l .given .0 .0)
-  listed = subst (Walked sheet number) (c .before .l .given .1) (c .before .before .before .walk .ensures)
+sub-held-curve : tie.Need-sub-held-curve
+sub-held-curve c = omega (arith, fits (here c))
 
--- where it stands
-abbrev long : tie.After-known-told2 → ℕ
-long c = c .before .l .given .0 .0 .to - c .before .l .given .0 .0 .from
+part-held-curve-start : tie.Need-part-held-curve-start
+part-held-curve-start c = omega (arith, fits (here c))
 
-located : (c : tie.Else1) → Locates (sheet (c .before)) (number (c .before)) (location.At (c .before .before .l .given .0 .0 .from) (long (c .before)))
-located c = sym (one-placed (listed (c .before)) (c .if1 .left))
+part-held-curve-end : tie.Need-part-held-curve-end
+part-held-curve-end c = search needs
+
+held-curve-requires : tie.Need-held-curve-requires
+held-curve-requires c κs = search needs
+
+-- what the bytes there hold
+held-there : (c : tie.After-held-curve) {x : Held} → c .held-curve .result ≡ x → let at = c .before .before in IsHeld (drop (place at) (start at .args .sheet .now)) x
+held-there c {x} e =
+    let at = c .before .before in
+    subst (λ (h : Held). IsHeld (drop (place at) (start at .args .sheet .now)) h) e
+    (subst (λ (rest : List ℕ). IsHeld rest (c .held-curve .result)) (rest-is (start at .args .sheet .now) (place at)) (c .held-curve .ensures))
+
+enum-known-curve : tie.Need-enum-known-curve
+enum-known-curve c = search needs
+
+enum-told : tie.Need-enum-told
+enum-told c = search needs
+
+nowhere-requires : tie.Need-nowhere-requires
+nowhere-requires c κs = search needs
+
+enum-known-f : tie.Need-enum-known-f
+enum-known-f c = search needs
 
 returns : tie.Need-returns
-returns c = sym (ap (with-given pointsIn) (none-chosen (listed (c .before)) (c .if1 .taken)))
-
-read-at-requires : tie.Need-read-at-requires
-read-at-requires c κs = (number (c .before), long (c .before), located c)
+returns c =
+    let held = c .before .before .before in
+    held-curve (here (held .before .before)) (c .before .curve .given .0 .0) _ (held-there held (c .before .curve .given .1)) .0
 
 returns-2 : tie.Need-returns-2
 returns-2 c =
-    let s = c .before .before .before .before .before .args .sheet .now in
-    let n = c .before .before .before .before .before .args .number in
-    sym (ap (λ (a : Answer (List (List ℕ))). with-given pointsIn (chosen n a)) (subst (Walked s n) (c .before .r .given .1) (c .before .before .before .walk .ensures)))
+    let held = c .before .before .before in
+    absurd (held-nothing (here (held .before .before)) (held-there held (c .before .enum-told .given .1)))
 
 returns-3 : tie.Need-returns-3
-returns-3 c = c .read-at .ensures (number (c .before .before)) (long (c .before .before)) (located (c .before)) .0
+returns-3 c =
+    let located = c .before .before .before in
+    let start = located .before .before in
+    refused-read _ _ (subst (Locates (start .args .sheet .now) (start .args .number)) (c .before .f .given .1) (located .locate .ensures))
 
 pub read-spec : {M : Type 1} → statement M
-read-spec = tie.close (tie.spec walk-requires enum-known-r enum-known-l returns read-at-requires returns-2 returns-3)
+read-spec =
+    tie.close
+    (tie.spec
+    locate-requires
+    enum-known-place
+    sub-held-curve
+    part-held-curve-start
+    part-held-curve-end
+    held-curve-requires
+    enum-known-curve
+    enum-told
+    nowhere-requires
+    enum-known-f
+    returns
+    returns-2
+    returns-3)

@@ -1,10 +1,11 @@
 -- `whole::gcd` meets its contract: numbers and their sizes have the same divisors.
-use mathlib.Core.Path.{subst₂}
+use mathlib.Core.Path.{ap, _∙_, subst₂}
 use mathlib.Core.List.{[], _∷_}
 use mathlib.Core.Logic.{Iff·symm, Iff·trans, Iff·and}
 use Prim.Native.Nat.{ℕ}
 use borrow.Author.Needs.{needs}
 use lib.IntN.{ℤ, pos, natAbs}
+use mir.Syntax.{w64}
 use mir.ValLaws.{toZ-ofZ}
 use Rattle.whole.specs.Poly.{Greatest}
 use Rattle.whole.specs.Number.{wholes}
@@ -34,8 +35,8 @@ returns c =
     let s = c .before .before .before in
     of-sizes (s .args .a) (s .args .b) (c .common .result)
     (subst₂ (λ (m n : ℕ). Greatest wholes (pos m ∷ pos n ∷ []) (pos (c .common .result)))
-    (simp (toZ-ofZ, s .fits .a) at (c .before .before .size .ensures))
-    (simp (toZ-ofZ, s .fits .b) at (c .before .size2 .ensures))
+    (c .before .before .size .ensures ∙ ap natAbs (toZ-ofZ w64 (s .args .a) (s .fits .a)))
+    (c .before .size2 .ensures ∙ ap natAbs (toZ-ofZ w64 (s .args .b) (s .fits .b)))
     (c .common .ensures))
 
 pub gcd-spec : {M : Type 1} → statement M

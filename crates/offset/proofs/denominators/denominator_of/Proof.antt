@@ -6,10 +6,10 @@ use mir.Val.{toZ, ofZ}
 use mir.ValLaws.{toZ-ofZ}
 use Rattle.whole.specs.Number.{Within}
 use Rattle.whole.proofs.Flags.{told, untold}
-use Rattle.curve.specs.declared.Preimage.{Preimage}
-use Rattle.curve.specs.declared.PreimageAnswer.the-variants as P
 use Rattle.curve.specs.Curves.{pointsOf}
-use Rattle.curve.specs.Promise.{Preimaged}
+use Rattle.verdict.specs.declared.Preimage.{Preimage}
+use Rattle.verdict.specs.declared.PreimageAnswer.the-variants as P
+use Rattle.verdict.specs.Promise.{Preimaged}
 use Rattle.offset.proofs.Answers.{root-asked, denominated-beyond, denominated-refused, denominated-found}
 use Rattle.offset.proofs.denominators.denominator_of.Statement.{statement}
 use Rattle.offset.proofs.denominators.denominator_of.Tie as tie

@@ -1,5 +1,6 @@
 -- `denominators::rooted` meets its contract.
 use mathlib.Core.Path.{_≡_, refl, sym, ap, _∙_, subst}
+use mathlib.Core.Logic.{inl, inr}
 use Prim.Native.Nat.{ℕ, _*_, _^_, _≤_}
 use native.Mathlib.Nat.{mul-le-mul, le-refl}
 use native.Mathlib.Omega.{arith}
@@ -21,7 +22,7 @@ use Rattle.whole.proofs.Machine.{cast-asks}
 use Rattle.poly.proofs.Lists.{at-scaled}
 use Rattle.pair.proofs.Laws.{root-le}
 use Rattle.root.specs.Roots.{quartic}
-use Rattle.curve.specs.declared.Square.{Square}
+use Rattle.verdict.specs.declared.Square.{Square}
 use Rattle.offset.proofs.denominators.rooted.Statement.{statement}
 use Rattle.offset.proofs.denominators.rooted.Tie as tie
 
@@ -91,18 +92,21 @@ returns : tie.Need-returns
 returns c =
     let k = c .before in
     let e : quartic (c .multiple .result) ≡ scaled wholes (pos (m k)) (quartic (s (t k) .q)) = c .multiple .ensures ∙ ap (λ z. scaled wholes z (quartic (s (t k) .q))) (m-kept k) in
-    record {
-      m = m k;
-      root = c-is (t k) ∙ ap pos (sym (square k));
-      is = e;
-      small = λ i. subst (Within 20000000) (sym (ap (λ l. at wholes l i) e ∙ at-scaled wholes-ring (pos (m k)) (quartic (s (t k) .q)) i)) (product-small k i);
-    }
+    let root = c-is (t k) ∙ ap pos (sym (square k)) in (
+      inr (λ none. none (m k) root, refl),
+      record {
+        m = m k;
+        root = root;
+        is = e;
+        small = λ i. subst (Within 20000000) (sym (ap (λ l. at wholes l i) e ∙ at-scaled wholes-ring (pos (m k)) (quartic (s (t k) .q)) i)) (product-small k i);
+      },
+    )
 
 returns-2 : tie.Need-returns-2
 returns-2 c =
     let q = c .before .before .before in
     let none = subst (IsRoot _) (c .enum-told .given .1) (c .before .before .square-root .ensures) in
-    (refl, λ m e. none m (sym (ap natAbs (c-kept q ∙ e))))
+    (inl (λ m e. none m (sym (ap natAbs (c-kept q ∙ e))), refl), refl)
 
 pub rooted-spec : {M : Type 1} → statement M
 rooted-spec = tie.close (tie.spec cast-square-root square-root-requires enum-known-m cast-multiple multiple-requires enum-told returns returns-2)

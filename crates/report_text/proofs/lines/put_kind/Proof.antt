@@ -1,10 +1,18 @@
--- `lines::put_kind` meets its contract.
+-- `lines::put_kind` meets its contract: the kind's name, between blanks.
 use borrow.Author.Needs.{needs}
+use mathlib.Core.Path.{ap, _∙_}
+use Rattle.record.specs.declared.kinds.Kind.{Kind}
+use Rattle.record.specs.declared.kinds.Row.{Row}
+use Rattle.record.specs.Kinds.{rowOf}
+use Rattle.text.proofs.Pieces.{_then_, writes-same}
 use Rattle.report_text.proofs.lines.put_kind.Statement.{statement}
 use Rattle.report_text.proofs.lines.put_kind.Tie as tie
 
-enum-told : tie.Need-enum-told
-enum-told c = search needs
+kind-of-requires : tie.Need-kind-of-requires
+kind-of-requires c κs = search needs
+
+row-of-requires : tie.Need-row-of-requires
+row-of-requires c κs = search needs
 
 slice-aggregate-put : tie.Need-slice-aggregate-put
 slice-aggregate-put c = search needs
@@ -12,38 +20,37 @@ slice-aggregate-put c = search needs
 put-requires : tie.Need-put-requires
 put-requires c κs = search needs
 
-enum-told-2 : tie.Need-enum-told-2
-enum-told-2 c = search needs
+put-requires-2 : tie.Need-put-requires-2
+put-requires-2 c κs = search needs
 
 slice-aggregate-put-2 : tie.Need-slice-aggregate-put-2
 slice-aggregate-put-2 c = search needs
 
-put-requires-2 : tie.Need-put-requires-2
-put-requires-2 c κs = search needs
+put-requires-3 : tie.Need-put-requires-3
+put-requires-3 c κs = search needs
 
 same-length : tie.Need-same-length
 same-length c = search needs
 
 returns : tie.Need-returns
-returns c = rw (c .before .before .before .before .before .enum-told .given .1) (c .before .before .put .ensures)
-
-same-length-2 : tie.Need-same-length-2
-same-length-2 c = search needs
-
-returns-2 : tie.Need-returns-2
-returns-2 c = rw (c .before .before .before .before .before .enum-told2 .given .1) (c .before .before .put2 .ensures)
+returns c =
+    let blank = c .before .before in
+    let name = blank .before .before .before .before .before in
+    let front = name .before .before .before .before .before .before .before in
+    let row = front .before .before .before in
+    let is = ap (λ (r : Row). r .name) (row .row-of .ensures ∙ ap rowOf (row .before .kind-of .ensures)) in
+    front .put .ensures then writes-same is (name .put2 .ensures) then blank .put3 .ensures
 
 pub put-kind-spec : {M : Type 1} → statement M
 put-kind-spec =
     tie.close
     (tie.spec
-    enum-told
+    kind-of-requires
+    row-of-requires
     slice-aggregate-put
     put-requires
-    enum-told-2
-    slice-aggregate-put-2
     put-requires-2
+    slice-aggregate-put-2
+    put-requires-3
     same-length
-    returns
-    same-length-2
-    returns-2)
+    returns)

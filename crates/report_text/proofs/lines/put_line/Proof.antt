@@ -1,6 +1,6 @@
--- `lines::put_line` meets its contract: the number, the kind, the verdict and the line's end.
+-- `lines::put_line` meets its contract: number, kind, verdict and the line's end.
 use borrow.Author.Needs.{needs}
-use Rattle.report_text.proofs.Pieces.{_then_}
+use Rattle.text.proofs.Pieces.{_then_}
 use Rattle.report_text.proofs.lines.put_line.Statement.{statement}
 use Rattle.report_text.proofs.lines.put_line.Tie as tie
 
@@ -11,7 +11,10 @@ put-kind-requires : tie.Need-put-kind-requires
 put-kind-requires c κs = search needs
 
 put-verdict-requires : tie.Need-put-verdict-requires
-put-verdict-requires c κs = search needs
+put-verdict-requires c κs =
+    let kind = c .before .before .before in
+    let number = kind .before .before .before .before in
+    number .before .before .before .pre
 
 slice-aggregate-put : tie.Need-slice-aggregate-put
 slice-aggregate-put c = search needs
@@ -24,11 +27,15 @@ same-length c = search needs
 
 returns : tie.Need-returns
 returns c =
-    let v = c .before .before .before .before .before .before .before .put-verdict .ensures in
+    let end = c .before .before in
+    let judged = end .before .before .before .before .before in
+    let kind = judged .before .before .before .before in
+    let number = kind .before .before .before .before in
+    let v = judged .put-verdict .ensures in
     record {
       verdict = v .verdict;
       recognised = v .recognised;
-      writes = c .before .before .before .before .before .before .before .before .before .before .before .before .before .before .before .put-number .ensures then c .before .before .before .before .before .before .before .before .before .before .before .put-kind .ensures then v .writes then c .before .before .put .ensures;
+      writes = number .put-number .ensures then kind .put-kind .ensures then v .writes then end .put .ensures;
     }
 
 pub put-line-spec : {M : Type 1} → statement M

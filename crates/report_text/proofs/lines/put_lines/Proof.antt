@@ -1,17 +1,20 @@
 -- `lines::put_lines` meets its contract. Invariant: the lines of the first k curves are written, and the next record stands at `next`.
 use borrow.Author.Needs.{needs}
 use mathlib.Core.Path.{_≡_, refl, _∙_, subst}
-use mathlib.Core.List.{List, []}
-use Prim.Native.Nat.{ℕ, suc, _+_, _-_, _≤_}
+use mathlib.Core.List.{List}
+use Prim.Native.Nat.{ℕ, suc, _+_, _-_, _≤_, _<_}
 use native.Mathlib.Omega.{arith}
-use lib.ListN.{length}
+use lib.ListN.{length, drop}
+use Rattle.curve.specs.declared.Curve.{Curve}
+use Rattle.record.specs.declared.points.Held.{Held}
+use Rattle.record.specs.Promise.{IsHeld}
 use Rattle.sheet.specs.declared.Reading.the-variants as reading
-use Rattle.sheet.specs.declared.Record.{Record}
-use Rattle.sheet.specs.Promises.{Reads}
+use Rattle.sheet.specs.Promise.{Reads}
+use Rattle.sheet.proofs.Passed.{rest-is}
 use Rattle.sheet.proofs.Places.{first-stands}
 use Rattle.report_text.specs.Steps.{WritesLines}
-use Rattle.report_text.proofs.Pieces.{writes-none, lines-more}
-use Rattle.report_text.proofs.OfSheet.{read-in-range, Ahead, passed}
+use Rattle.report_text.proofs.Lined.{lines-none, lines-more}
+use Rattle.report_text.proofs.OfSheet.{read-in-range, Ahead, ahead-fits, ahead-near, ahead-held, passed}
 use Rattle.report_text.proofs.lines.put_lines.Statement.{statement}
 use Rattle.report_text.proofs.lines.put_lines.Tie as tie
 
@@ -22,56 +25,105 @@ abbrev μ-loop : tie.MeasureT-loop
 μ-loop area₀ sheet count at₀ next₀ k₀ area at next k = count - k
 
 loop-holds : tie.Need-loop-holds Inv-loop μ-loop
-loop-holds c = (omega arith, refl, record { lines = []; of-curves = refl; writes = writes-none _ _ }, first-stands (c .before .before .args .sheet .now) (c .before .before .args .count) (c .before .before .pre))
+loop-holds c = let s = c .before .before in (omega arith, refl, lines-none _ _ _, first-stands (s .args .sheet .now) (s .args .count) (s .pre))
 
-read-at-requires : tie.Need-read-at-requires Inv-loop μ-loop
-read-at-requires c κs =
-    let l = c .before .loop in
-    let f = l .inv .3 (c .loop-test .taken) in
-    (suc (l .k), f .0, f .1)
+-- the record ahead
+module _ (c : tie.In-loop Inv-loop μ-loop) where
+  abbrev start : tie.Start Inv-loop μ-loop
+  start = let l = c .before in l .before .before .before
 
-add-k : tie.Need-add-k Inv-loop μ-loop
-add-k c = omega arith
-
-module _ (c : tie.After-read-at Inv-loop μ-loop) where
   abbrev sheet : List ℕ
-  sheet = c .before .before .before .before .before .args .sheet .now
+  sheet = start .args .sheet .now
 
   abbrev count : ℕ
-  count = c .before .before .before .before .before .args .count
+  count = start .args .count
 
   abbrev k : ℕ
-  k = c .before .before .loop .k
+  k = c .before .loop .k
 
-  abbrev found : Record
-  found = c .read-at .result
+  abbrev next : ℕ
+  next = c .before .loop .next
 
-  read : Reads sheet (suc k) (reading.Points (found .curve)) × Ahead sheet count (k + 1) (found .end)
-  read =
-      let l = c .before .before .loop in
-      passed sheet count k (l .next) found (c .before .before .before .before .before .pre) (c .before .loop-test .taken) (l .inv .3) (c .read-at .ensures)
+  left : k < count
+  left = c .loop-test .taken
 
-put-line-requires : tie.Need-put-line-requires Inv-loop μ-loop
-put-line-requires c κs = read-in-range (sheet (c .before)) (suc (k (c .before))) (found (c .before) .curve) (read (c .before) .0)
+  ahead : Ahead sheet count k next
+  ahead = c .before .loop .inv .3
 
-loop-less : tie.Need-loop-less Inv-loop μ-loop
-loop-less c = omega arith
+sub-held-curve : tie.Need-sub-held-curve Inv-loop μ-loop
+sub-held-curve c = omega (arith, ahead-fits (sheet c) (count c) (k c) (next c) (left c) (ahead c))
 
-loop-again : tie.Need-loop-again Inv-loop μ-loop
-loop-again c =
-    let r = c .before .before .before .before in
-    let l = r .before .before .loop in (
-      omega arith,
-      c .before .before .put-line .kept .0 ∙ l .inv .1,
-      lines-more (l .k) (l .inv .2) (read r .0) (c .before .before .put-line .ensures),
-      read r .1,
-    )
+part-held-curve-start : tie.Need-part-held-curve-start Inv-loop μ-loop
+part-held-curve-start c = omega (arith, ahead-fits (sheet c) (count c) (k c) (next c) (left c) (ahead c))
+
+part-held-curve-end : tie.Need-part-held-curve-end Inv-loop μ-loop
+part-held-curve-end c = search needs
+
+held-curve-requires : tie.Need-held-curve-requires Inv-loop μ-loop
+held-curve-requires c κs = search needs
+
+held-there : (c : tie.After-held-curve Inv-loop μ-loop) {x : Held} → c .held-curve .result ≡ x → let i = c .before .before in IsHeld (drop (next i) (sheet i)) x
+held-there c e =
+    let i = c .before .before in
+    subst (IsHeld (drop (next i) (sheet i))) e (subst (λ (rest : List ℕ). IsHeld rest (c .held-curve .result)) (rest-is (sheet i) (next i)) (c .held-curve .ensures))
+
+enum-known-curve : tie.Need-enum-known-curve Inv-loop μ-loop
+enum-known-curve c = search needs
+
+enum-told : tie.Need-enum-told Inv-loop μ-loop
+enum-told c = search needs
 
 same-length : tie.Need-same-length Inv-loop μ-loop
 same-length c = search needs
 
 returns : tie.Need-returns Inv-loop μ-loop
 returns c =
+    let h = c .before .before in
+    let i = h .before .before in
+    absurd (ahead-held (sheet i) (count i) (k i) (next i) (left i) (ahead i) (held-there h (c .enum-told .given .1)))
+
+-- the curve that is held there
+module _ (c : tie.After-known-told Inv-loop μ-loop) where
+  abbrev inside : tie.In-loop Inv-loop μ-loop
+  inside = let h = c .before .before .before in h .before .before
+
+  abbrev curve : Curve
+  curve = c .before .curve .given .0 .0
+
+  abbrev size : ℕ
+  size = c .before .curve .given .0 .1 .0
+
+  read : Reads (sheet inside) (suc (k inside)) (reading.Points curve) × (size ≡ ahead inside (left inside) .0) × Ahead (sheet inside) (count inside) (k inside + 1) (next inside + size)
+  read =
+      passed (sheet inside) (count inside) (k inside) (next inside) (left inside) (ahead inside) (start inside .pre) curve size
+      (held-there (c .before .before .before) (c .before .curve .given .1))
+
+add-next : tie.Need-add-next Inv-loop μ-loop
+add-next c =
+    let i = inside c in
+    omega (arith, ahead-fits (sheet i) (count i) (k i) (next i) (left i) (ahead i), ahead-near (sheet i) (count i) (k i) (next i) (left i) (ahead i), read c .1)
+
+add-k : tie.Need-add-k Inv-loop μ-loop
+add-k c = omega (arith, left (inside c))
+
+put-line-requires : tie.Need-put-line-requires Inv-loop μ-loop
+put-line-requires c κs = let f = c .before in read-in-range (sheet (inside f)) (suc (k (inside f))) (curve f) (read f .0)
+
+loop-less : tie.Need-loop-less Inv-loop μ-loop
+loop-less c = omega (arith, left (inside (c .before .before .before .before)))
+
+loop-again : tie.Need-loop-again Inv-loop μ-loop
+loop-again c =
+    let put = c .before .before in
+    let f = put .before .before in
+    let inv = inside f .before .loop .inv in
+    (omega (arith, left (inside f)), put .put-line .kept .0 ∙ inv .1, lines-more (k (inside f)) (inv .2) (read f .0) (put .put-line .ensures), read f .2)
+
+same-length-2 : tie.Need-same-length-2 Inv-loop μ-loop
+same-length-2 c = search needs
+
+returns-2 : tie.Need-returns-2 Inv-loop μ-loop
+returns-2 c =
     let s = c .before .before .before .before .args in
     let l = c .before .loop in
     subst (λ (n : ℕ). WritesLines (s .area .now) (s .place) (s .sheet .now) n (l .area) (l .at)) (omega arith) (l .inv .2)
@@ -83,10 +135,18 @@ put-lines-spec =
     Inv-loop
     μ-loop
     loop-holds
-    read-at-requires
+    sub-held-curve
+    part-held-curve-start
+    part-held-curve-end
+    held-curve-requires
+    enum-known-curve
+    enum-told
+    same-length
+    returns
+    add-next
     add-k
     put-line-requires
     loop-less
     loop-again
-    same-length
-    returns)
+    same-length-2
+    returns-2)

@@ -1,35 +1,21 @@
 -- `lines::put_verdict` meets its contract, verdict by verdict.
 use borrow.Author.Needs.{needs}
-use mathlib.Core.Path.{_≡_, refl, ap, _∙_, subst}
-use lib.IntN.{natAbs}
+use mathlib.Core.Path.{_≡_, ap, subst}
+use mathlib.Core.List.{_++_}
+use lib.IntN.{ℤ}
 use mir.Syntax.{w64}
-use mir.Val.{toZ, ofZ}
 use mir.ValLaws.{toZ-ofZ}
-use Rattle.whole.proofs.Linear.{linear}
-use Rattle.curve.specs.declared.Square.{Square}
-use Rattle.curve.specs.declared.Verdict.the-variants as verdicts
 use Rattle.curve.specs.Curves.{pointsOf}
-use Rattle.curve.specs.Promise.{Recognised}
-use Rattle.report_text.specs.Texts.{bytes}
-use Rattle.report_text.proofs.Pieces.{numbered, writes-none}
+use Rattle.verdict.specs.declared.Verdict.{Verdict}
+use Rattle.verdict.specs.declared.Verdict.the-variants as verdicts
+use Rattle.verdict.specs.Promise.{Recognised}
+use Rattle.text.specs.Texts.{bytes, signed}
+use Rattle.text.proofs.Pieces.{writes-none, writes-same}
 use Rattle.report_text.proofs.lines.put_verdict.Statement.{statement}
 use Rattle.report_text.proofs.lines.put_verdict.Tie as tie
 
 recognise-requires : tie.Need-recognise-requires
 recognise-requires c κs = search needs
-
-module _ (c : tie.After-struct-told) where
-  abbrev square : Square
-  square = c .before .before .before .before .s .given .0 .0
-
-  c-kept : toZ w64 (ofZ w64 (square .c)) ≡ square .c
-  c-kept = toZ-ofZ w64 _ (search needs)
-
-  recognised-ph : Recognised (pointsOf (c .before .before .before .before .before .before .before .before .args .curve)) (verdicts.Ph square)
-  recognised-ph = subst (Recognised _) (c .before .before .before .before .s .given .1) (c .before .before .before .before .before .before .recognise .ensures)
-
-recognised-pre : (c : tie.After-put-preimage-arg) → Recognised (pointsOf (c .before .before .before .before .before .before .args .curve)) (verdicts.Pre (c .before .before .p .given .0 .0))
-recognised-pre c = subst (Recognised _) (c .before .before .p .given .1) (c .before .before .before .before .recognise .ensures)
 
 enum-told : tie.Need-enum-told
 enum-told c = search needs
@@ -52,20 +38,21 @@ put-requires-2 c κs = search needs
 enum-known-s : tie.Need-enum-known-s
 enum-known-s c = search needs
 
-slice-aggregate-put-labelled : tie.Need-slice-aggregate-put-labelled
-slice-aggregate-put-labelled c = search needs
+slice-aggregate-put-signed : tie.Need-slice-aggregate-put-signed
+slice-aggregate-put-signed c = search needs
 
-size-requires : tie.Need-size-requires
-size-requires c κs = search needs
-
-put-labelled-requires : tie.Need-put-labelled-requires
-put-labelled-requires c κs = search needs
+put-signed-requires : tie.Need-put-signed-requires
+put-signed-requires c κs = search needs
 
 enum-known-p : tie.Need-enum-known-p
 enum-known-p c = search needs
 
+-- what was recognised, by its case
+judged : (c : tie.After-recognise) {v : Verdict} → c .recognise .result ≡ v → Recognised (pointsOf (c .before .before .args .curve)) v
+judged c e = subst (Recognised (pointsOf (c .before .before .args .curve))) e (c .recognise .ensures)
+
 put-preimage-requires : tie.Need-put-preimage-requires
-put-preimage-requires c κs = (c .before .before .before .before .before .before .pre, recognised-pre c .verdict refl .1)
+put-preimage-requires c κs = let found = c .before .before in (found .before .before .before .before .pre, judged (found .before .before) (found .p .given .1) .1 .1)
 
 enum-told-3 : tie.Need-enum-told-3
 enum-told-3 c = search needs
@@ -74,30 +61,45 @@ same-length : tie.Need-same-length
 same-length c = search needs
 
 returns : tie.Need-returns
-returns c = record { verdict = verdicts.Still; recognised = subst (Recognised _) (c .before .before .before .before .before .enum-told .given .1) (c .before .before .before .before .before .before .before .recognise .ensures); writes = c .before .before .put .ensures }
+returns c =
+    let put = c .before .before in
+    let told = put .before .before .before in
+    record { verdict = verdicts.Still; recognised = judged (told .before .before) (told .enum-told .given .1); writes = put .put .ensures }
 
 same-length-2 : tie.Need-same-length-2
 same-length-2 c = search needs
 
 returns-2 : tie.Need-returns-2
-returns-2 c = record { verdict = verdicts.No; recognised = subst (Recognised _) (c .before .before .before .before .before .enum-told2 .given .1) (c .before .before .before .before .before .before .before .recognise .ensures); writes = c .before .before .put2 .ensures }
+returns-2 c =
+    let put = c .before .before in
+    let told = put .before .before .before in
+    record { verdict = verdicts.No; recognised = judged (told .before .before) (told .enum-told2 .given .1); writes = put .put2 .ensures }
 
 same-length-3 : tie.Need-same-length-3
 same-length-3 c = search needs
 
 returns-3 : tie.Need-returns-3
 returns-3 c =
-    let k = c .before .before .before .before in
-    record { verdict = verdicts.Ph (square k); recognised = recognised-ph k; writes = numbered (bytes "ph c=") (square k .c) (c .before .before .before .size .ensures ∙ ap natAbs (c-kept k)) (omega (linear, recognised-ph k .verdict refl .1 .positive)) (c .before .before .put-labelled .ensures) }
+    let put = c .before .before in
+    let found = put .before .before .before .before .before in
+    let kept = toZ-ofZ w64 (found .s .given .0 .0 .c) (search needs) in
+    record {
+      verdict = verdicts.Ph (found .s .given .0 .0);
+      recognised = judged (found .before .before) (found .s .given .1);
+      writes = writes-same (ap (λ (x : ℤ). bytes "ph c=" ++ signed x) kept) (put .put-signed .ensures);
+    }
 
 same-length-4 : tie.Need-same-length-4
 same-length-4 c = search needs
 
 returns-4 : tie.Need-returns-4
-returns-4 c = record { verdict = verdicts.Pre (c .before .before .before .before .before .p .given .0 .0); recognised = recognised-pre (c .before .before .before); writes = c .before .before .put-preimage .ensures }
+returns-4 c =
+    let put = c .before .before in
+    let found = put .before .before .before in
+    record { verdict = verdicts.Pre (found .p .given .0 .0); recognised = judged (found .before .before) (found .p .given .1); writes = put .put-preimage .ensures }
 
 returns-5 : tie.Need-returns-5
-returns-5 c = record { verdict = verdicts.Refused (c .enum-told3 .given .0 .0); recognised = subst (Recognised _) (c .enum-told3 .given .1) (c .before .before .recognise .ensures); writes = writes-none _ _ }
+returns-5 c = record { verdict = verdicts.Refused (c .enum-told3 .given .0 .0); recognised = judged (c .before .before) (c .enum-told3 .given .1); writes = writes-none _ _ }
 
 pub put-verdict-spec : {M : Type 1} → statement M
 put-verdict-spec =
@@ -111,9 +113,8 @@ put-verdict-spec =
     slice-aggregate-put-2
     put-requires-2
     enum-known-s
-    slice-aggregate-put-labelled
-    size-requires
-    put-labelled-requires
+    slice-aggregate-put-signed
+    put-signed-requires
     enum-known-p
     put-preimage-requires
     enum-told-3

@@ -63,16 +63,20 @@ sum-requires-3 c κs =
       rw (c .product4 .ensures) (wider (lit≤ tt) (times-within (factor (o s .pre 1)) (factor (o s .pre 1)))),
     )
 
+-- the first product, from where the middle sum is made
+abbrev first : tie.After-sum3 → tie.After-product
+first c = c .before .before .before .before
+
 product-requires-5 : tie.Need-product-requires-5
-product-requires-5 c κs = let s = c .before .before .before .before .before in (d1-within s, factor (o s .pre 2))
+product-requires-5 c κs = let s = first c .before in (d1-within s, factor (o s .pre 2))
 
 product-requires-6 : tie.Need-product-requires-6
-product-requires-6 c κs = let h = factor (o (c .before .before .before .before .before .before) .pre 2) in (h, h)
+product-requires-6 c κs = let h = factor (o (first (c .before) .before) .pre 2) in (h, h)
 
 -- the five numbers, with the sums in them written out
 module _ (c : tie.After-product6) where
   abbrev place : tie.After-sum2
-  place = c .before .before .before .before .before .before .before
+  place = first (c .before .before) .before
 
   abbrev b0 : Pair
   b0 = w place .b0
@@ -102,7 +106,7 @@ module _ (c : tie.After-product6) where
   squared = quadratic-square pairs-ring b0 b1 b2
 
 returns : tie.Need-returns
-returns c zero = squared c 0 ∙ sym (c .before .before .before .before .before .before .product .ensures)
+returns c zero = squared c 0 ∙ sym (first (c .before .before) .product .ensures)
 returns c (suc zero) = squared c 1 ∙ sym (is-e1 c)
 returns c (suc (suc zero)) = squared c 2 ∙ sym (is-e2 c)
 returns c (suc (suc (suc zero))) = squared c 3 ∙ sym (is-e3 c)

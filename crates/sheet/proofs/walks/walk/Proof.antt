@@ -1,26 +1,31 @@
 -- `walks::walk` meets its contract. Invariant: where the walk stands (`Passed`).
 use borrow.Author.Needs.{needs}
 use mathlib.Core.Path.{_≡_, sym, ap, _∙_}
-use mathlib.Core.Logic.{⊎-elim}
+use mathlib.Core.List.{List}
 use Prim.Native.Nat.{ℕ, _+_, _-_, _≤_, _<_}
 use native.Mathlib.Omega.{arith}
 use lib.ListN.{length, drop, length-drop}
-use Rattle.sheet.specs.Steps.{stepOf}
-use Rattle.sheet.specs.declared.steps.Step.the-variants as step
-use Rattle.sheet.proofs.Shown.{fault-near}
-use Rattle.sheet.proofs.Outcomes.{outcome-long}
-use Rattle.sheet.proofs.Passed.{Passed, passed-none, rest-is, sound-here, fault-here, farther, passed-here, passed-past}
+use Rattle.record.specs.declared.kinds.Kind.{Kind}
+use Rattle.record.specs.declared.kinds.Row.{Row}
+use Rattle.record.specs.declared.steps.Step.the-variants as step
+use Rattle.record.specs.Kinds.{rowOf}
+use Rattle.record.specs.Steps.{stepOf}
+use Rattle.record.proofs.Shown.{fault-near}
+use Rattle.sheet.proofs.Passed.{Passed, passed-none, walked-long, rest-is, sound-here, fault-here, farther, passed-here, passed-past, passed-other}
 use Rattle.sheet.proofs.walks.walk.Statement.{statement}
 use Rattle.sheet.proofs.walks.walk.Tie as tie
 
 abbrev Inv-loop : tie.InvT-loop
-Inv-loop sheet number at₀ count₀ from₀ to₀ at count from to = Passed sheet number at count from to
+Inv-loop sheet number at₀ curves₀ from₀ to₀ at curves from to = Passed sheet number at curves from to
 
 abbrev μ-loop : tie.MeasureT-loop
-μ-loop sheet number at₀ count₀ from₀ to₀ at count from to = length sheet - at
+μ-loop sheet number at₀ curves₀ from₀ to₀ at curves from to = length sheet - at
+
+nowhere-requires : tie.Need-nowhere-requires Inv-loop μ-loop
+nowhere-requires c κs = search needs
 
 returns : tie.Need-returns Inv-loop μ-loop
-returns c = outcome-long _ (c .if1 .taken)
+returns c = walked-long _ _ (c .before .if1 .taken) (c .nowhere .ensures)
 
 loop-holds : tie.Need-loop-holds Inv-loop μ-loop
 loop-holds c = passed-none _ _
@@ -37,69 +42,103 @@ part-step-of-end c = search needs
 step-of-requires : tie.Need-step-of-requires Inv-loop μ-loop
 step-of-requires c κs = search needs
 
--- the step at the walk's place
-step-is : (c : tie.After-step-of Inv-loop μ-loop) → c .step-of .result ≡ stepOf (drop (c .before .before .loop .at) (c .before .before .before .before .before .args .sheet .now))
-step-is c = c .step-of .ensures ∙ ap stepOf (rest-is (c .before .before .before .before .before .args .sheet .now) (c .before .before .loop .at))
+-- the step at the walk's place, and what is known there
+module _ (c : tie.After-step-of Inv-loop μ-loop) where
+  abbrev head : tie.At-loop Inv-loop μ-loop
+  head = c .before .before
 
--- what a record's step says there
-module _ (c : tie.After-known-told2 Inv-loop μ-loop) where
-  abbrev size : ℕ
-  size = c .before .size .given .0 .0
+  abbrev sheet : List ℕ
+  sheet = head .before .before .before .args .sheet .now
 
-  record-is : stepOf (drop (c .before .before .before .before .before .loop .at) (c .before .before .before .before .before .before .before .before .args .sheet .now)) ≡ step.Record size
-  record-is = sym (step-is (c .before .before .before)) ∙ c .before .size .given .1
+  short : length sheet ≤ 4096
+  short = head .before .if1 .left
 
-  ahead : (0 < size) × (c .before .before .before .before .before .loop .at + size ≤ length (c .before .before .before .before .before .before .before .before .args .sheet .now))
-  ahead = farther (c .before .before .before .before .before .loop .inv) size record-is
+  step-is : c .step-of .result ≡ stepOf (drop (head .loop .at) sheet)
+  step-is = c .step-of .ensures ∙ ap stepOf (rest-is sheet (head .loop .at))
 
 enum-told : tie.Need-enum-told Inv-loop μ-loop
 enum-told c = search needs
 
 returns-2 : tie.Need-returns-2 Inv-loop μ-loop
-returns-2 c =
-    let k = c .before .before in
-    sound-here (k .before .before .loop .inv) (k .before .before .before .if1 .left) (sym (step-is k) ∙ c .enum-told .given .1)
+returns-2 c = let k = c .before .before in sound-here (head k .loop .inv) (short k) (sym (step-is k) ∙ c .enum-told .given .1)
 
-enum-known-r : tie.Need-enum-known-r Inv-loop μ-loop
-enum-known-r c = search needs
+enum-known-refusal : tie.Need-enum-known-refusal Inv-loop μ-loop
+enum-known-refusal c = search needs
 
-add-t19 : tie.Need-add-t19 Inv-loop μ-loop
-add-t19 c =
+-- a fault lies within the sheet
+within : (c : tie.After-known-told Inv-loop μ-loop) → let k = c .before .before .before in head k .loop .at + c .before .refusal .given .0 .1 .0 ≤ 4096
+within c =
     let k = c .before .before .before in
-    let s = k .before .before .before .before .before .args .sheet .now in
-    let near = fault-near _ _ _ (sym (step-is k) ∙ c .before .r .given .1) in
-    omega (arith, near, length-drop (k .before .before .loop .at) s, k .before .before .before .if1 .left, k .before .before .loop .inv .room)
+    let near = fault-near _ _ _ (sym (step-is k) ∙ c .before .refusal .given .1) in
+    omega (arith, near, length-drop (head k .loop .at) (sheet k), short k, head k .loop .inv .room)
+
+add-place : tie.Need-add-place Inv-loop μ-loop
+add-place c = omega (arith, within c)
+
+cast-place : tie.Need-cast-place Inv-loop μ-loop
+cast-place c = omega (arith, within c)
 
 returns-3 : tie.Need-returns-3 Inv-loop μ-loop
-returns-3 c =
-    let k = c .before .before .before in
-    fault-here (k .before .before .loop .inv) (k .before .before .before .if1 .left) (sym (step-is k) ∙ c .before .r .given .1)
+returns-3 c = let k = c .before .before .before in fault-here (head k .loop .inv) (short k) (sym (step-is k) ∙ c .before .refusal .given .1)
 
-enum-known-size : tie.Need-enum-known-size Inv-loop μ-loop
-enum-known-size c = search needs
+enum-known-kind : tie.Need-enum-known-kind Inv-loop μ-loop
+enum-known-kind c = search needs
 
-add-count : tie.Need-add-count Inv-loop μ-loop
-add-count c =
-    let k = c .before .before .before in
-    omega (arith, k .before .before .loop .inv .few, k .before .before .loop .inv .room, k .before .before .before .if1 .left)
+row-of-requires : tie.Need-row-of-requires Inv-loop μ-loop
+row-of-requires c κs = search needs
 
-add-to : tie.Need-add-to Inv-loop μ-loop
-add-to c = omega (arith, ahead (c .before), c .before .before .before .before .before .before .before .if1 .left)
+-- what a record's step says there
+module _ (c : tie.After-struct-known Inv-loop μ-loop) where
+  abbrev stepped : tie.After-step-of Inv-loop μ-loop
+  stepped = let told = c .before .before in told .before .before .before
 
-add-at : tie.Need-add-at Inv-loop μ-loop
-add-at c = omega (arith, ahead (c .before), c .before .before .before .before .before .before .before .if1 .left)
+  abbrev place : ℕ
+  place = head stepped .loop .at
+
+  abbrev kind : Kind
+  kind = c .before .before .before .kind .given .0 .0
+
+  abbrev size : ℕ
+  size = c .before .row-of .result .size
+
+  passed : Passed (sheet stepped) (head stepped .before .before .before .args .number) place (head stepped .loop .curves) (head stepped .loop .from) (head stepped .loop .to)
+  passed = head stepped .loop .inv
+
+  record-is : stepOf (drop place (sheet stepped)) ≡ step.Record kind
+  record-is = sym (step-is stepped) ∙ c .before .before .before .kind .given .1
+
+  size-is : size ≡ rowOf kind .size
+  size-is = ap (λ (r : Row). r .size) (c .before .row-of .ensures)
+
+  curve-is : c .before .row-of .result .curve ≡ rowOf kind .curve
+  curve-is = ap (λ (r : Row). r .curve) (c .before .row-of .ensures)
+
+  ahead : (0 < size) × (place + size ≤ length (sheet stepped))
+  ahead = let f = farther passed kind record-is in (omega (arith, f .0, size-is), omega (arith, f .1, size-is))
+
+add-end : tie.Need-add-end Inv-loop μ-loop
+add-end c = omega (arith, ahead c, short (stepped c))
+
+add-curves : tie.Need-add-curves Inv-loop μ-loop
+add-curves c = let k = c .before in omega (arith, passed k .few, passed k .room, short (stepped k))
 
 loop-less : tie.Need-loop-less Inv-loop μ-loop
-loop-less c = omega (arith, ahead (c .before))
+loop-less c = omega (arith, ahead (c .before .before))
 
 loop-again : tie.Need-loop-again Inv-loop μ-loop
-loop-again c =
-    let p = c .before .before .before .before .before .before .loop .inv in
-    let e = record-is (c .before) in
-    ⊎-elim
-    (λ w. rw (w .1, w .2) (passed-here p (size (c .before)) e (w .0 .taken)))
-    (λ w. rw (w .1, w .2) (passed-past p (size (c .before)) e (w .0 .left)))
-    (c .if2 .came)
+loop-again c = let k = c .before .before in rw (size-is k) (passed-here (passed k) (kind k) (record-is k) (sym (curve-is k) ∙ c .before .if2 .taken) (c .if3 .taken))
+
+loop-less-2 : tie.Need-loop-less-2 Inv-loop μ-loop
+loop-less-2 c = omega (arith, ahead (c .before .before))
+
+loop-again-2 : tie.Need-loop-again-2 Inv-loop μ-loop
+loop-again-2 c = let k = c .before .before in rw (size-is k) (passed-past (passed k) (kind k) (record-is k) (sym (curve-is k) ∙ c .before .if2 .taken) (c .if3 .left))
+
+loop-less-3 : tie.Need-loop-less-3 Inv-loop μ-loop
+loop-less-3 c = omega (arith, ahead (c .before))
+
+loop-again-3 : tie.Need-loop-again-3 Inv-loop μ-loop
+loop-again-3 c = let k = c .before in rw (size-is k) (passed-other (passed k) (kind k) (record-is k) (sym (curve-is k) ∙ c .if2 .left))
 
 pub walk-spec : {M : Type 1} → statement M
 walk-spec =
@@ -107,6 +146,7 @@ walk-spec =
     (tie.spec
     Inv-loop
     μ-loop
+    nowhere-requires
     returns
     loop-holds
     sub-step-of
@@ -115,12 +155,17 @@ walk-spec =
     step-of-requires
     enum-told
     returns-2
-    enum-known-r
-    add-t19
+    enum-known-refusal
+    add-place
+    cast-place
     returns-3
-    enum-known-size
-    add-count
-    add-to
-    add-at
+    enum-known-kind
+    row-of-requires
+    add-end
+    add-curves
     loop-less
-    loop-again)
+    loop-again
+    loop-less-2
+    loop-again-2
+    loop-less-3
+    loop-again-3)

@@ -1,16 +1,16 @@
 -- `lines::all` is safe, and ends: each line begins behind the one before.
 use mathlib.Core.Path.{_≡_}
-use Prim.Native.Nat.{_-_}
-use borrow.Author.Needs.{needs}
+use Prim.Native.Nat.{_+_, _-_, _≤_}
 use lib.ListN.{length}
+use borrow.Author.Needs.{needs}
 use Rattle.trials.proofs.lines.all.Statement.{statement}
 use Rattle.trials.proofs.lines.all.Tie as tie
 
 abbrev Inv-loop : tie.InvT-loop
-Inv-loop text area₀ at₀ area at = length area ≡ length area₀
+Inv-loop text area₀ at₀ number₀ area at number = (length area ≡ length area₀) × (number ≤ at + 1)
 
 abbrev μ-loop : tie.MeasureT-loop
-μ-loop text area₀ at₀ area at = length text - at
+μ-loop text area₀ at₀ number₀ area at number = length text - at
 
 loop-holds : tie.Need-loop-holds Inv-loop μ-loop
 loop-holds c = search needs
@@ -18,20 +18,23 @@ loop-holds c = search needs
 find-requires : tie.Need-find-requires Inv-loop μ-loop
 find-requires c κs = search needs
 
-sub-line : tie.Need-sub-line Inv-loop μ-loop
-sub-line c = search needs
+sub-answer-line : tie.Need-sub-answer-line Inv-loop μ-loop
+sub-answer-line c = search needs
 
-part-line-start : tie.Need-part-line-start Inv-loop μ-loop
-part-line-start c = search needs
+part-answer-line-start : tie.Need-part-answer-line-start Inv-loop μ-loop
+part-answer-line-start c = search needs
 
-part-line-end : tie.Need-part-line-end Inv-loop μ-loop
-part-line-end c = search needs
+part-answer-line-end : tie.Need-part-answer-line-end Inv-loop μ-loop
+part-answer-line-end c = search needs
 
-line-requires : tie.Need-line-requires Inv-loop μ-loop
-line-requires c κs = search needs
+answer-line-requires : tie.Need-answer-line-requires Inv-loop μ-loop
+answer-line-requires c κs = search needs
 
 add-at : tie.Need-add-at Inv-loop μ-loop
 add-at c = search needs
+
+add-number : tie.Need-add-number Inv-loop μ-loop
+add-number c = search needs
 
 loop-less : tie.Need-loop-less Inv-loop μ-loop
 loop-less c = search needs
@@ -53,11 +56,12 @@ all-spec =
     μ-loop
     loop-holds
     find-requires
-    sub-line
-    part-line-start
-    part-line-end
-    line-requires
+    sub-answer-line
+    part-answer-line-start
+    part-answer-line-end
+    answer-line-requires
     add-at
+    add-number
     loop-less
     loop-again
     same-length

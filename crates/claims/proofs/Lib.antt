@@ -1,0 +1,2 @@
+-- What holds across the crates of curves.
+pub mod Built

@@ -1,0 +1,2 @@
+-- What is claimed across crates.
+pub mod Built

@@ -1,0 +1,2 @@
+-- The definitions that the contracts cite: how an answer is handed over.
+pub mod Promise

@@ -1,0 +1,8 @@
+-- What the proofs share, and what other crates may cite.
+pub mod Table
+pub mod Signs
+pub mod Loops
+pub mod Pieces
+pub mod Shown
+pub mod Formed
+pub mod Putting

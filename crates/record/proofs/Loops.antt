@@ -1,0 +1,76 @@
+-- What the loops over bytes and numbers carry from turn to turn: the definition from here on equals the definition from the start.
+--   erased-all, erased-stop, erased-more    the bytes FF that a list begins with
+--   within-none, within-fail, within-pass   the coordinates of a record
+--   numbers-none, numbers-fail, numbers-pass, numbers-at   a list of numbers
+use mathlib.Core.Path.{_≡_, refl}
+use mathlib.Core.Bool.{true, false}
+use mathlib.Core.List.{List, [], _∷_}
+use Prim.Native.Nat.{ℕ, zero, suc, _+_, _-_, _≤_, _<_}
+use native.Mathlib.Omega.{arith}
+use native.Mathlib.Nat.{not-suc-le-zero, le-of-suc-le-suc}
+use native.Mathlib.Numerals.{add-one}
+use lib.Dec.{leb}
+use lib.IntN.{ℤ, pos, natAbs}
+use lib.ListN.{length, getD, drop, drop-of-length-le}
+use lib.Seq.{drop-cons}
+use borrow.Author.Tests.{eq-eqb, ne-eqb, leb-true}
+use Rattle.whole.specs.Number.{Within}
+use Rattle.refusal.specs.Answers.{if_then_else_}
+use Rattle.record.specs.Numbers.{wordAt, signed, coordinates}
+use Rattle.record.specs.Steps.{erasedBytes, allWithin}
+use Rattle.refusal.proofs.Answers.{both-true}
+
+-- ---- the erased bytes
+
+pub erased-all : (s : List ℕ) (i : ℕ) → length s ≤ i → i ≡ i + erasedBytes (drop i s)
+unfolding if_then_else_
+erased-all s i h = rw (drop-of-length-le s {i = i} h) (omega arith)
+
+pub erased-stop : (s : List ℕ) (i : ℕ) → i < length s → (getD s i 0 ≡ 255 → ⊥) → i ≡ i + erasedBytes (drop i s)
+unfolding if_then_else_
+erased-stop s i h k = rw (drop-cons s i 0 h, ne-eqb _ _ k) (omega arith)
+
+pub erased-more : (s : List ℕ) (i : ℕ) → i < length s → getD s i 0 ≡ 255 → i + 1 + erasedBytes (drop (i + 1) s) ≡ i + erasedBytes (drop i s)
+unfolding if_then_else_
+erased-more s i h k = rw (drop-cons s i 0 h, eq-eqb _ _ k, add-one) (omega arith)
+
+-- ---- a record's coordinates
+
+pub within-none : (s : List ℕ) (at left : ℕ) → left ≤ 0 → true ≡ allWithin (coordinates left s at)
+unfolding coordinates allWithin
+within-none s at zero l = refl
+within-none s at (suc m) l = absurd (omega arith)
+
+pub within-fail :
+    (s : List ℕ) (at left : ℕ) → 0 < left → leb (natAbs (signed (wordAt s at))) 20000 ≡ false → false ≡ allWithin (coordinates left s at)
+unfolding coordinates allWithin
+within-fail s at zero l e = absurd (omega arith)
+within-fail s at (suc m) l e = rw e
+
+pub within-pass :
+    (s : List ℕ) (at left : ℕ) → 0 < left → leb (natAbs (signed (wordAt s at))) 20000 ≡ true →
+    allWithin (coordinates (left - 1) s (at + 4)) ≡ allWithin (coordinates left s at)
+unfolding coordinates allWithin
+within-pass s at zero l e = absurd (omega arith)
+within-pass s at (suc m) l e = let q : suc m - 1 ≡ m = omega arith in rw (e, q)
+
+-- ---- a list of numbers
+
+pub numbers-none : (xs : List ℤ) (i : ℕ) → length xs ≤ i → true ≡ allWithin (drop i xs)
+unfolding allWithin
+numbers-none xs i h = rw (drop-of-length-le xs {i = i} h)
+
+pub numbers-fail : (xs : List ℤ) (i : ℕ) → i < length xs → leb (natAbs (getD xs i (pos 0))) 20000 ≡ false → false ≡ allWithin (drop i xs)
+unfolding allWithin
+numbers-fail xs i h e = rw (drop-cons xs i (pos 0) h, e)
+
+pub numbers-pass :
+    (xs : List ℤ) (i : ℕ) → i < length xs → leb (natAbs (getD xs i (pos 0))) 20000 ≡ true → allWithin (drop (i + 1) xs) ≡ allWithin (drop i xs)
+unfolding allWithin
+numbers-pass xs i h e = rw (drop-cons xs i (pos 0) h, e, add-one)
+
+pub numbers-at : (xs : List ℤ) (i : ℕ) → allWithin xs ≡ true → i < length xs → Within 20000 (getD xs i (pos 0))
+unfolding allWithin
+numbers-at [] i a h = absurd (not-suc-le-zero h)
+numbers-at (x ∷ xs) zero a h = record { size = leb-true (natAbs x) 20000 (both-true (leb (natAbs x) 20000) (allWithin xs) a .0) }
+numbers-at (x ∷ xs) (suc i) a h = numbers-at xs i (both-true (leb (natAbs x) 20000) (allWithin xs) a .1) (le-of-suc-le-suc h)

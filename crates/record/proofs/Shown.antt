@@ -1,0 +1,200 @@
+-- What a step shows of the bytes at its place, and the bytes that make it.
+--   Holds         a record of a kind stands at the start of the bytes
+--   Shown         what a step says of the bytes: all erased, a fault within them, or a record
+--   fault-near    a fault's place lies within the bytes
+--   AllErased     every byte is FF
+--   erased-ends   such bytes end the sheet.             ends-erased   bytes that end the sheet are such
+--   coordinates-same   the same bytes are the same coordinates
+--   Whole         a list that is a record of a kind and nothing more
+--   whole-step    whatever stands behind it, its step is the record.     step-whole   the bytes that a step passes are such a list
+use mathlib.Core.Path.{_≡_, refl, sym, ap, _∙_, subst}
+use mathlib.Core.Bool.{true, false}
+use mathlib.Core.List.{List, [], _∷_, _++_}
+use Prim.Native.Nat.{ℕ, zero, suc, _+_, _*_, _≤_, _<_}
+use native.Mathlib.Omega.{arith}
+use native.Mathlib.Nat.{not-suc-le-zero, le-of-suc-le-suc, add-zero}
+use lib.Dec.{eqb}
+use lib.ListN.{length, getD, take, length-append, List·getD-append}
+use lib.Seq.{length-take-le, getD-take}
+use borrow.Author.Tests.{eqb-true, eqb-false, ltb-true, ltb-false, eq-eqb, ne-eqb, le-ltb, not-false}
+use Rattle.refusal.specs.declared.Refusal.{Refusal}
+use Rattle.refusal.specs.Answers.{if_then_else_}
+use Rattle.record.specs.Numbers.{sizeOf, coordinates}
+use Rattle.record.specs.declared.kinds.Kind.{Kind}
+use Rattle.record.specs.declared.kinds.Named.{Named}
+use Rattle.record.specs.declared.kinds.Named.the-variants as named-as
+use Rattle.record.specs.Kinds.{rowOf, kinds, words}
+use Rattle.record.specs.Steps.{erasedBytes, erasedStep, named, kindIn, allWithin, sizedStep, kindStep, stepOf}
+use Rattle.record.specs.declared.steps.Step.{Step}
+use Rattle.record.specs.declared.steps.Step.the-variants as step
+use Rattle.refusal.proofs.Answers.{by-test}
+use Rattle.record.proofs.Table.{row-known, known-kind, named-is}
+
+pub record Holds (k : Kind) (bytes : List ℕ) : Type 0 where
+  pub fits : rowOf k .size ≤ length bytes
+  pub size-is : sizeOf bytes ≡ rowOf k .size
+  pub name-is : named k bytes ≡ true
+  pub range : allWithin (coordinates (words k) bytes 4) ≡ true
+
+abbrev pub AllErased : List ℕ → Type 0
+AllErased bytes = (i : ℕ) → i < length bytes → getD bytes i 0 ≡ 255
+
+pub data Shown (bytes : List ℕ) : Step → Type 0 where
+  ends : AllErased bytes → Shown bytes step.Ends
+  faults : {r : Refusal} {offset : ℕ} → offset ≤ length bytes → Shown bytes (step.Fault r offset)
+  holds : {k : Kind} → Holds k bytes → Shown bytes (step.Record k)
+
+-- ---- the erased tail
+
+erased-at : (bytes : List ℕ) (i : ℕ) → i < erasedBytes bytes → getD bytes i 0 ≡ 255
+erased-at [] i h = absurd (not-suc-le-zero h)
+erased-at (b ∷ bytes) i h =
+    by-test (λ (n : ℕ). i < n → getD (b ∷ bytes) i 0 ≡ 255) (eqb b 255)
+    (λ e l. inside (eqb-true _ _ e) i l (λ j m. erased-at bytes j m))
+    (λ e l. absurd (not-suc-le-zero l))
+    h
+  where
+    inside : b ≡ 255 → (i : ℕ) → i < suc (erasedBytes bytes) → ((j : ℕ) → j < erasedBytes bytes → getD bytes j 0 ≡ 255) → getD (b ∷ bytes) i 0 ≡ 255
+    inside q zero l f = q
+    inside q (suc j) l f = f j (le-of-suc-le-suc l)
+
+all-erased : (bytes : List ℕ) → AllErased bytes → erasedBytes bytes ≡ length bytes
+unfolding if_then_else_
+all-erased [] f = refl
+all-erased (b ∷ bytes) f = rw (eq-eqb _ _ (f 0 (omega arith))) (ap suc (all-erased bytes (λ i l. f (suc i) (omega arith))))
+
+-- ---- from the step to the bytes
+
+module _ (bytes : List ℕ) where
+  sized-shown : (k : Kind) → named k bytes ≡ true → Shown bytes (sizedStep k bytes)
+  unfolding sizedStep
+  sized-shown k n =
+      by-test (Shown bytes) _ (λ _. faults (omega arith)) (λ s.
+      by-test (Shown bytes) _ (λ _. faults (omega arith)) (λ l.
+      by-test (Shown bytes) _ (λ _. faults (omega arith)) (λ v.
+      holds (record { fits = ltb-false _ _ l; size-is = eqb-true _ _ (not-false _ s); name-is = n; range = not-false _ v }))))
+
+  kind-shown : (x : Named) → kindIn kinds bytes ≡ x → Shown bytes (kindStep bytes x)
+  kind-shown (named-as.Kind k) e = sized-shown k (named-is kinds bytes k e)
+  kind-shown named-as.Unknown e = faults {offset = 0} (omega arith)
+
+  erased-shown : Shown bytes (erasedStep bytes)
+  unfolding erasedStep
+  erased-shown = by-test (Shown bytes) _ (λ e. let l : erasedBytes bytes < length bytes = ltb-true _ _ e in faults (omega arith)) (λ e. let l : length bytes ≤ erasedBytes bytes = ltb-false _ _ e in ends (λ i h. erased-at bytes i (omega arith)))
+
+  shown : Shown bytes (stepOf bytes)
+  unfolding stepOf
+  shown =
+      by-test (Shown bytes) _ (λ e. let z : length bytes ≡ 0 = eqb-true _ _ e in ends (λ i h. absurd (omega arith))) (λ _.
+      by-test (Shown bytes) _
+      (λ o.
+      let q : length bytes ≡ 1 = eqb-true _ _ o in
+      by-test (Shown bytes) _ (λ f. ends (λ i h. let z : i ≡ 0 = omega arith in rw z (eqb-true _ _ f))) (λ _. faults (omega arith)))
+      (λ _.
+      by-test (Shown bytes) _ (λ _. erased-shown) (λ _.
+      by-test (Shown bytes) _ (λ _. faults (omega arith)) (λ _. kind-shown (kindIn kinds bytes) refl))))
+
+held-in : {bytes : List ℕ} {k : Kind} → Shown bytes (step.Record k) → Holds k bytes
+held-in (holds h) = h
+
+step-record : (bytes : List ℕ) (k : Kind) → stepOf bytes ≡ step.Record k → Holds k bytes
+step-record bytes k e = held-in (subst (Shown bytes) e (shown bytes))
+
+erased-in : {bytes : List ℕ} → Shown bytes step.Ends → AllErased bytes
+erased-in (ends f) = f
+
+pub ends-erased : (bytes : List ℕ) → stepOf bytes ≡ step.Ends → AllErased bytes
+ends-erased bytes e = erased-in (subst (Shown bytes) e (shown bytes))
+
+near-in : {bytes : List ℕ} {r : Refusal} {offset : ℕ} → Shown bytes (step.Fault r offset) → offset ≤ length bytes
+near-in (faults l) = l
+
+pub fault-near : (bytes : List ℕ) (r : Refusal) (offset : ℕ) → stepOf bytes ≡ step.Fault r offset → offset ≤ length bytes
+fault-near bytes r offset e = near-in (subst (Shown bytes) e (shown bytes))
+
+-- ---- from the bytes to the step
+
+record-step : (k : Kind) (bytes : List ℕ) → Holds k bytes → stepOf bytes ≡ step.Record k
+unfolding stepOf sizedStep if_then_else_
+record-step k bytes h =
+    let z = row-known k in
+    let l : 4 < length bytes = omega (arith, h .fits, z .long) in
+    let w : sizeOf bytes < 65535 = omega (arith, h .size-is, z .short) in
+    rw (
+      ne-eqb (length bytes) 0 (λ q. omega arith),
+      ne-eqb (length bytes) 1 (λ q. omega arith),
+      ne-eqb (sizeOf bytes) 65535 (λ q. omega arith),
+      le-ltb (length bytes) 4 (omega arith),
+      known-kind k bytes (h .name-is),
+      eq-eqb (sizeOf bytes) (rowOf k .size) (h .size-is),
+      le-ltb (length bytes) (rowOf k .size) (h .fits),
+      h .range,
+    )
+
+pub erased-ends : (bytes : List ℕ) → AllErased bytes → stepOf bytes ≡ step.Ends
+unfolding stepOf erasedStep
+erased-ends bytes f =
+    by-test Is _ (λ _. refl) (λ z.
+    let n : length bytes ≡ 0 → ⊥ = eqb-false _ _ z in
+    let b0 : getD bytes 0 0 ≡ 255 = f 0 (omega arith) in
+    by-test Is _ (λ _. by-test Is _ (λ _. refl) (λ d. absurd (eqb-false _ _ d b0))) (λ o.
+    let n1 : length bytes ≡ 1 → ⊥ = eqb-false _ _ o in
+    let b1 : getD bytes 1 0 ≡ 255 = f 1 (omega arith) in
+    by-test Is _
+    (λ _. by-test Is _ (λ g. absurd (beyond (ltb-true _ _ g) (all-erased bytes f))) (λ _. refl))
+    (λ d. absurd (eqb-false (sizeOf bytes) 65535 d (omega arith)))))
+  where
+    Is : Step → Type 0
+    Is x = x ≡ step.Ends
+
+    beyond : {a b : ℕ} → a < b → a ≡ b → ⊥
+    beyond l e = omega arith
+
+-- ---- a record and nothing more
+
+pub coordinates-same : (n : ℕ) (s t : List ℕ) (a b : ℕ) → ((j : ℕ) → j < 4 * n → getD t (b + j) 0 ≡ getD s (a + j) 0) → coordinates n t b ≡ coordinates n s a
+unfolding coordinates
+coordinates-same zero s t a b f = refl
+coordinates-same (suc n) s t a b f =
+    let p : getD t b 0 ≡ getD s a 0 = ap (λ (k : ℕ). getD t k 0) (sym (add-zero b)) ∙ f 0 (omega arith) ∙ ap (λ (k : ℕ). getD s k 0) (add-zero a) in
+    let q = f 1 (omega arith) in
+    let r = f 2 (omega arith) in
+    let u = f 3 (omega arith) in
+    let v = coordinates-same n s t (a + 4) (b + 4) (λ j l.
+    let x : b + 4 + j ≡ b + (4 + j) = omega arith in
+    let y : a + 4 + j ≡ a + (4 + j) = omega arith in
+    ap (λ (k : ℕ). getD t k 0) x ∙ f (4 + j) (omega arith) ∙ ap (λ (k : ℕ). getD s k 0) (sym y))
+    in
+    rw (p, q, r, u, v)
+
+-- bytes that agree as far as a record goes hold the same record
+holds-same : (k : Kind) (s t : List ℕ) → rowOf k .size ≤ length t → ((i : ℕ) → i < rowOf k .size → getD t i 0 ≡ getD s i 0) → Holds k s → Holds k t
+unfolding named
+holds-same k s t l f h =
+    let z0 = row-known k .long in
+    let z1 = row-known k .holds in
+    record {
+      fits = l;
+      size-is = rw (f 0 (omega arith), f 1 (omega arith)) (h .size-is);
+      name-is = rw (f 2 (omega arith), f 3 (omega arith)) (h .name-is);
+      range = ap allWithin (coordinates-same (words k) s t 4 4 (λ j m. f (4 + j) (omega arith))) ∙ h .range;
+    }
+
+pub record Whole (k : Kind) (x : List ℕ) : Type 0 where
+  pub long : length x ≡ rowOf k .size
+  pub here : Holds k x
+
+pub whole-step : {k : Kind} {x : List ℕ} → Whole k x → (t : List ℕ) → stepOf (x ++ t) ≡ step.Record k
+whole-step {k} {x} w t =
+    record-step k (x ++ t)
+    (holds-same k x (x ++ t) (omega (arith, length-append x t, w .long)) (λ i m. List·getD-append x t 0 i (omega (arith, w .long))) (w .here))
+
+pub step-whole : (bytes : List ℕ) (k : Kind) → stepOf bytes ≡ step.Record k → Whole k (take (rowOf k .size) bytes) × (4 < rowOf k .size) × (rowOf k .size ≤ length bytes)
+step-whole bytes k e =
+    let h = step-record bytes k e in
+    let l = h .fits in
+    let long : length (take (rowOf k .size) bytes) ≡ rowOf k .size = length-take-le (rowOf k .size) bytes l in (
+      record { long = long; here = holds-same k bytes (take (rowOf k .size) bytes) (omega arith) (λ i m. getD-take (rowOf k .size) bytes i 0 m) h },
+      row-known k .long,
+      l,
+    )

@@ -1,0 +1,62 @@
+-- `steps::all_within` meets its contract. Invariant: what is left of the coordinates decides the whole.
+use borrow.Author.Needs.{needs}
+use mathlib.Core.Path.{_≡_, refl, ap, _∙_, sym}
+use Prim.Native.Nat.{ℕ, _+_, _*_, _≤_}
+use native.Mathlib.Omega.{arith}
+use lib.Dec.{leb}
+use lib.IntN.{natAbs}
+use lib.ListN.{length}
+use Rattle.record.specs.Numbers.{signed, coordinates}
+use Rattle.record.specs.Steps.{allWithin}
+use Rattle.record.proofs.Signs.{word-within, word-outside}
+use Rattle.record.proofs.Loops.{within-none, within-fail, within-pass}
+use Rattle.record.proofs.steps.all_within.Statement.{statement}
+use Rattle.record.proofs.steps.all_within.Tie as tie
+
+abbrev Inv-loop : tie.InvT-loop
+Inv-loop rest words at₀ left₀ at left = (allWithin (coordinates left rest at) ≡ allWithin (coordinates words rest 4)) × (at + 4 * left ≤ length rest)
+
+abbrev μ-loop : tie.MeasureT-loop
+μ-loop rest words at₀ left₀ at left = left
+
+loop-holds : tie.Need-loop-holds Inv-loop μ-loop
+loop-holds c = (refl, search needs)
+
+word-at-requires : tie.Need-word-at-requires Inv-loop μ-loop
+word-at-requires c κs = search needs
+
+add-if1 : tie.Need-add-if1 Inv-loop μ-loop
+add-if1 c = search needs
+
+returns : tie.Need-returns Inv-loop μ-loop
+returns c =
+    let w = c .before .word-at .ensures in
+    within-fail _ _ _ (c .before .before .loop-test .taken)
+    (ap (λ (n : ℕ). leb (natAbs (signed n)) 20000) (sym (w .0)) ∙ word-outside _ (w .1) (c .if1 .taken))
+    ∙ c .before .before .before .loop .inv .0
+
+add-at : tie.Need-add-at Inv-loop μ-loop
+add-at c = search needs
+
+sub-left : tie.Need-sub-left Inv-loop μ-loop
+sub-left c = search needs
+
+loop-less : tie.Need-loop-less Inv-loop μ-loop
+loop-less c = search needs
+
+loop-again : tie.Need-loop-again Inv-loop μ-loop
+loop-again c =
+    let w = c .before .word-at .ensures in (
+      within-pass _ _ _ (c .before .before .loop-test .taken)
+          (ap (λ (n : ℕ). leb (natAbs (signed n)) 20000) (sym (w .0)) ∙ word-within _ (w .1) (c .if1 .left))
+          ∙ c .before .before .before .loop .inv .0,
+      omega arith,
+    )
+
+returns-2 : tie.Need-returns-2 Inv-loop μ-loop
+returns-2 c = within-none _ _ _ (c .loop-test .left) ∙ c .before .loop .inv .0
+
+pub all-within-spec : {M : Type 1} → statement M
+all-within-spec =
+    tie.close
+    (tie.spec Inv-loop μ-loop loop-holds word-at-requires add-if1 returns add-at sub-left loop-less loop-again returns-2)

@@ -1,0 +1,51 @@
+-- The table of kinds, and the bytes of a record.
+--   rowOf        a kind's row: its name of two bytes, the length of its records, whether they hold coordinates, whether they are curves
+--   kinds        the kinds, in the order in which a name is looked for
+--   words        how many coordinates a record of a kind holds, behind the four bytes of its head
+--   kindOf       the kind of a curve
+--   numbersOf    a list of points as numbers: x then y of each point
+--   formed       the bytes of a record: length, name, and what it holds
+--   recordOf     the bytes of a curve's record
+--   pointsIn     the points that a record's bytes hold
+use mathlib.Core.Bool.{true}
+use mathlib.Core.List.{List, [], _∷_, _++_}
+use Prim.Native.Nat.{ℕ, _-_, _/_, _%_}
+use lib.IntN.{ℤ}
+use lib.ListN.{length}
+use Rattle.refusal.specs.Answers.{if_then_else_}
+use Rattle.pair.specs.declared.Pair.{Pair}
+use Rattle.curve.specs.declared.Curve.{Curve}
+use Rattle.curve.specs.declared.Curve.the-variants as curves
+use Rattle.curve.specs.Curves.{pointsOf}
+use Rattle.record.specs.declared.kinds.Kind.{Kind}
+use Rattle.record.specs.declared.kinds.Kind.the-variants.{Cubic, Quintic}
+use Rattle.record.specs.declared.kinds.Row.{Row}
+use Rattle.record.specs.Numbers.{coordinates, paired, encoded}
+
+-- b"C3" is 67, 51, and b"C5" is 67, 53
+abbrev pub rowOf : Kind → Row
+rowOf Cubic = record { name = 67 ∷ 51 ∷ []; size = 36; coordinates = true; curve = true }
+rowOf Quintic = record { name = 67 ∷ 53 ∷ []; size = 52; coordinates = true; curve = true }
+
+abbrev pub kinds : List Kind
+kinds = Cubic ∷ Quintic ∷ []
+
+unfoldable pub words : Kind → ℕ
+words k = if rowOf k .coordinates then (rowOf k .size - 4) / 4 else 0
+
+abbrev pub kindOf : Curve → Kind
+kindOf (curves.Cubic c) = Cubic
+kindOf (curves.Quintic c) = Quintic
+
+abbrev pub numbersOf : List Pair → List ℤ
+numbersOf [] = []
+numbersOf (p ∷ ps) = p .re ∷ p .im ∷ numbersOf ps
+
+abbrev pub formed : Kind → List ℕ → List ℕ
+formed k body = (rowOf k .size % 256 ∷ rowOf k .size / 256 ∷ []) ++ rowOf k .name ++ body
+
+abbrev pub recordOf : Curve → List ℕ
+recordOf c = formed (kindOf c) (encoded (numbersOf (pointsOf c)))
+
+unfoldable pub pointsIn : List ℕ → List Pair
+pointsIn bytes = paired (coordinates ((length bytes - 4) / 4) bytes 4)

@@ -1,0 +1,53 @@
+// The table of kinds. No other place knows a kind's name or length.
+ghost use mathlib.Core.Path.{_≡_};
+ghost use Rattle.record.specs.Kinds.{rowOf, words as wordsOf};
+
+pub enum Kind {
+    Cubic,
+    Quintic,
+}
+
+// What the two bytes after a record's length name.
+pub enum Named {
+    Kind(Kind),
+    Unknown,
+}
+
+// A kind's name, the length of its records, whether what they hold are coordinates, and whether they are curves.
+pub struct Row {
+    pub name: [u8; 2],
+    pub size: usize,
+    pub coordinates: bool,
+    pub curve: bool,
+}
+
+pub fn row_of(kind: Kind) -> Row
+    ensures { λ r. ⌜ r ≡ rowOf kind ⌝ }
+{
+    match kind {
+        Kind::Cubic => Row {
+            name: *b"C3",
+            size: 36,
+            coordinates: true,
+            curve: true,
+        },
+        Kind::Quintic => Row {
+            name: *b"C5",
+            size: 52,
+            coordinates: true,
+            curve: true,
+        },
+    }
+}
+
+// How many coordinates a record of the kind holds.
+pub(crate) fn words(kind: Kind) -> usize
+    ensures { λ r. ⌜ r ≡ wordsOf kind ⌝ }
+{
+    let row = row_of(kind);
+    if row.coordinates {
+        (row.size - 4) / 4
+    } else {
+        0
+    }
+}

@@ -1,0 +1,18 @@
+// A record of the parameter sheet: numbers in bytes, the table of kinds, one step of reading a sheet, and the bytes of a curve's record.
+mod kinds;
+mod numbers;
+mod points;
+mod steps;
+mod writes;
+
+pub use kinds::Kind;
+pub use kinds::row_of;
+pub use points::Held;
+pub use points::cubic_numbers;
+pub use points::held_curve;
+pub use points::kind_of;
+pub use points::quintic_numbers;
+pub use steps::Step;
+pub use steps::step_of;
+pub use writes::Put;
+pub use writes::put_curve;

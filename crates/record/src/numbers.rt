@@ -1,0 +1,64 @@
+// Numbers in a sheet's bytes, the lowest byte first.
+ghost use mathlib.Core.Path.{_≡_};
+ghost use Prim.Native.Nat.{_+_, _≤_, _<_};
+ghost use lib.ListN.{length};
+ghost use Rattle.whole.specs.Number.{Within};
+ghost use Rattle.record.specs.Numbers.{halfAt, wordAt, signed as signedOf, bits as bitsOf, wordBytes, written};
+
+fn wide(x: u8) -> u64
+    ensures { λ r. ⌜ (r ≡ x) × (r < 256) ⌝ }
+{
+    x as u64
+}
+
+pub(crate) fn half_at(bytes: &[u8], at: usize) -> u64
+    requires { ⌜ at + 2 ≤ length (now bytes) ⌝ }
+    ensures { λ r. ⌜ r ≡ halfAt (now (bytes .entry)) at ⌝ }
+{
+    wide(bytes[at]) + 256 * wide(bytes[at + 1])
+}
+
+pub(crate) fn word_at(bytes: &[u8], at: usize) -> u64
+    requires { ⌜ at + 4 ≤ length (now bytes) ⌝ }
+    ensures { λ r. ⌜ (r ≡ wordAt (now (bytes .entry)) at) × (r < 4294967296) ⌝ }
+{
+    wide(bytes[at])
+        + 256 * wide(bytes[at + 1])
+        + 65536 * wide(bytes[at + 2])
+        + 16777216 * wide(bytes[at + 3])
+}
+
+// A word as a signed number: no cast does that without a proof that nothing is lost.
+pub(crate) fn signed(w: u64) -> i64
+    requires { ⌜ w < 4294967296 ⌝ }
+    ensures { λ r. ⌜ r ≡ signedOf w ⌝ }
+{
+    if w < 2147483648 {
+        w as i64
+    } else {
+        let m = 4294967296 - w;
+        -(m as i64)
+    }
+}
+
+// The word of a number in range.
+pub(crate) fn bits(x: i64) -> u64
+    requires { ⌜ Within 20000 x ⌝ }
+    ensures { λ r. ⌜ r ≡ bitsOf x ⌝ }
+{
+    if x < 0 {
+        (4294967296 + x) as u64
+    } else {
+        x as u64
+    }
+}
+
+pub(crate) fn put_word(bytes: &mut [u8], at: usize, w: u64)
+    requires { ⌜ at + 4 ≤ length (now bytes) ⌝ }
+    ensures { λ _. ⌜ now (bytes .exit) ≡ written (now (bytes .entry)) at (wordBytes w) ⌝ }
+{
+    bytes[at] = (w % 256) as u8;
+    bytes[at + 1] = (w / 256 % 256) as u8;
+    bytes[at + 2] = (w / 65536 % 256) as u8;
+    bytes[at + 3] = (w / 16777216 % 256) as u8;
+}

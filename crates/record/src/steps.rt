@@ -1,0 +1,152 @@
+// One step of reading a sheet: what stands at a record's place.
+ghost use mathlib.Core.Path.{_≡_};
+ghost use Prim.Native.Nat.{_+_, _*_, _≤_};
+ghost use lib.ListN.{length};
+ghost use Rattle.record.specs.Numbers.{coordinates};
+ghost use Rattle.record.specs.Kinds.{kinds};
+ghost use Rattle.record.specs.Steps.{erasedBytes, erasedStep, named, kindIn, allWithin, sizedStep, kindStep, stepOf};
+use crate::kinds::Kind;
+use crate::kinds::Named;
+use crate::kinds::row_of;
+use crate::kinds::words;
+use crate::numbers::half_at;
+use crate::numbers::word_at;
+use refusal::Refusal;
+
+// What stands at a record's place: the end of the sheet, a fault some bytes on, or a record of a kind.
+pub enum Step {
+    Ends,
+    Fault(Refusal, usize),
+    Record(Kind),
+}
+
+// How many bytes FF `rest` begins with.
+fn erased_bytes(rest: &[u8]) -> usize
+    ensures { λ r. ⌜ r ≡ erasedBytes (now (rest .entry)) ⌝ }
+{
+    let mut i: usize = 0;
+    while i < rest.len() {
+        if rest[i] != 255 {
+            return i;
+        }
+        i += 1;
+    }
+    i
+}
+
+fn erased_step(rest: &[u8]) -> Step
+    ensures { λ r. ⌜ r ≡ erasedStep (now (rest .entry)) ⌝ }
+{
+    let erased = erased_bytes(rest);
+    if erased < rest.len() {
+        Step::Fault(Refusal::Leftover, erased)
+    } else {
+        Step::Ends
+    }
+}
+
+fn is_named(rest: &[u8], kind: Kind) -> bool
+    requires { ⌜ 4 ≤ length (now rest) ⌝ }
+    ensures { λ r. ⌜ r ≡ named kind (now (rest .entry)) ⌝ }
+{
+    let name = row_of(kind).name;
+    if rest[2] == name[0] {
+        rest[3] == name[1]
+    } else {
+        false
+    }
+}
+
+pub(crate) fn kind_in(rest: &[u8]) -> Named
+    requires { ⌜ 4 ≤ length (now rest) ⌝ }
+    ensures { λ r. ⌜ r ≡ kindIn kinds (now (rest .entry)) ⌝ }
+{
+    if is_named(rest, Kind::Cubic) {
+        return Named::Kind(Kind::Cubic);
+    }
+    if is_named(rest, Kind::Quintic) {
+        return Named::Kind(Kind::Quintic);
+    }
+    Named::Unknown
+}
+
+// Whether the coordinates of a record are all from -20,000 to 20,000. One comparison serves both ends of the range.
+fn all_within(rest: &[u8], words: usize) -> bool
+    requires { ⌜ 4 + 4 * words ≤ length (now rest) ⌝ }
+    ensures { λ r. ⌜ r ≡ allWithin (coordinates words (now (rest .entry)) 4) ⌝ }
+{
+    let mut at: usize = 4;
+    let mut left = words;
+    while left > 0 {
+        if (word_at(rest, at) + 20000) % 4294967296 > 40000 {
+            return false;
+        }
+        at += 4;
+        left -= 1;
+    }
+    true
+}
+
+// A record of a known kind.
+fn record_step(rest: &[u8], kind: Kind) -> Step
+    requires { ⌜ 2 ≤ length (now rest) ⌝ }
+    ensures { λ r. ⌜ r ≡ sizedStep kind (now (rest .entry)) ⌝ }
+{
+    let size = row_of(kind).size;
+    if half_at(rest, 0) != size as u64 {
+        return Step::Fault(Refusal::Length, 0);
+    }
+    if rest.len() < size {
+        return Step::Fault(Refusal::Cut, 0);
+    }
+    if all_within(rest, words(kind)) {
+        Step::Record(kind)
+    } else {
+        Step::Fault(Refusal::Range, 0)
+    }
+}
+
+// An arm for each kind, so that the compiler knows how many coordinates it has.
+fn sized_step(rest: &[u8], kind: Kind) -> Step
+    requires { ⌜ 2 ≤ length (now rest) ⌝ }
+    ensures { λ r. ⌜ r ≡ sizedStep kind (now (rest .entry)) ⌝ }
+{
+    match kind {
+        Kind::Cubic => record_step(rest, Kind::Cubic),
+        Kind::Quintic => record_step(rest, Kind::Quintic),
+    }
+}
+
+// A record of whatever kind its name says.
+fn kind_step(rest: &[u8]) -> Step
+    requires { ⌜ 4 ≤ length (now rest) ⌝ }
+    ensures { λ r. ⌜ r ≡ kindStep (now (rest .entry)) (kindIn kinds (now (rest .entry))) ⌝ }
+{
+    match kind_in(rest) {
+        Named::Kind(kind) => sized_step(rest, kind),
+        Named::Unknown => Step::Fault(Refusal::Kind, 0),
+    }
+}
+
+// What stands at a record's place, of which `rest` is left.
+pub fn step_of(rest: &[u8]) -> Step
+    ensures { λ r. ⌜ r ≡ stepOf (now (rest .entry)) ⌝ }
+{
+    let left = rest.len();
+    if left == 0 {
+        return Step::Ends;
+    }
+    if left == 1 {
+        if rest[0] == 255 {
+            return Step::Ends;
+        }
+        return Step::Fault(Refusal::Cut, 0);
+    }
+    if half_at(rest, 0) == 65535 {
+        return erased_step(rest);
+    }
+    if left < 4 {
+        return Step::Fault(Refusal::Cut, 0);
+    }
+    kind_step(rest)
+}

@@ -1,0 +1,190 @@
+-- The survey of a sheet, record by record.
+--   same-bound                the bound in the definition is no bound once it is above the bytes left
+--   reads                     what is found in what is left at a place
+--   reads-ends, reads-fault, reads-record   what a step at the place makes of it
+--   survey-long, survey-short the survey is TOO LONG, or what is read from place 0
+--   flat                      records one after another
+--   Listed                    whole records that stand one behind another, from a place on
+--   Ended                     how the records end, by the step behind them
+--   Parts, parts-of           what is left at a place is its records, and what stands behind them
+--   survey-of                 a sheet of whole records and an erased tail has just these
+--   sound-of, faulty-of       what an outcome says of the survey.      short-of   a sound sheet is not too long
+--   faulty-once               records end with one fault
+--   sheet-parts               a sheet that is not too long is its records, and what stands behind them
+use mathlib.Core.Path.{_≡_, refl, sym, ap, _∙_, subst}
+use mathlib.Core.List.{List, [], _∷_, _++_, append-assoc}
+use Prim.Native.Nat.{ℕ, zero, suc, _+_, _≤_, _<_}
+use native.Mathlib.Omega.{arith}
+use native.Mathlib.Nat.{not-suc-le-zero}
+use lib.ListN.{length, take, drop, length-append, length-drop, take-append-drop}
+use lib.Seq.{take-at, drop-at}
+use borrow.Author.Tests.{lt-ltb, le-ltb}
+use Rattle.refusal.specs.declared.Refusal.{Refusal}
+use Rattle.refusal.specs.declared.Refusal.the-variants as refusal
+use Rattle.refusal.specs.declared.Fault.{Fault}
+use Rattle.refusal.specs.Answers.{refused, given, if_then_else_}
+use Rattle.refusal.proofs.Answers.{by-order, no-answer, given-once, refused-once}
+use Rattle.record.specs.declared.kinds.Kind.{Kind}
+use Rattle.record.specs.declared.steps.Step.{Step}
+use Rattle.record.specs.declared.steps.Step.the-variants as step
+use Rattle.record.specs.Kinds.{rowOf}
+use Rattle.record.specs.Steps.{stepOf}
+use Rattle.record.proofs.Shown.{Whole, whole-step, step-whole}
+use Rattle.sheet.specs.declared.walks.Ending.{Ending}
+use Rattle.sheet.specs.declared.walks.Ending.the-variants.{Sound, Faulty}
+use Rattle.sheet.specs.Survey.{Entry, Survey, entryAt, nothing, before, found, surveyFrom, survey, soundly, outcome}
+
+unfolds : (most at : ℕ) (rest : List ℕ) → surveyFrom (suc most) at rest ≡ found at rest (λ size. surveyFrom most (at + size) (drop size rest)) (stepOf rest)
+unfolding surveyFrom
+unfolds most at rest = refl
+
+-- a bound above the bytes left is no bound
+pub same-bound : (m n at : ℕ) (rest : List ℕ) → length rest < m → length rest < n → surveyFrom m at rest ≡ surveyFrom n at rest
+same-bound zero n at rest l k = absurd (not-suc-le-zero l)
+same-bound (suc m) zero at rest l k = absurd (not-suc-le-zero k)
+same-bound (suc m) (suc n) at rest l k = unfolds m at rest ∙ by-step (stepOf rest) refl (λ p t. same-bound m n p t) ∙ sym (unfolds n at rest)
+  where
+    Later : ℕ → ℕ → Survey
+    Later most size = surveyFrom most (at + size) (drop size rest)
+
+    by-step :
+        (x : Step) → stepOf rest ≡ x → ((p : ℕ) (t : List ℕ) → length t < m → length t < n → surveyFrom m p t ≡ surveyFrom n p t) →
+        found at rest (Later m) x ≡ found at rest (Later n) x
+    by-step step.Ends e f = refl
+    by-step (step.Fault r offset) e f = refl
+    by-step (step.Record kind) e f =
+        let w = step-whole rest kind e in
+        let size = rowOf kind .size in
+        let less : length (drop size rest) < length rest = omega (arith, length-drop size rest, w .1, w .2) in
+        ap (before (entryAt at rest kind)) (f (at + size) (drop size rest) (omega arith) (omega arith))
+
+unfoldable pub reads : ℕ → List ℕ → Survey
+reads at rest = surveyFrom (suc (length rest)) at rest
+
+module _ (at : ℕ) (rest : List ℕ) where
+  pub reads-ends : stepOf rest ≡ step.Ends → reads at rest ≡ nothing at Sound
+  unfolding reads
+  reads-ends e = unfolds (length rest) at rest ∙ rw e
+
+  pub reads-fault : {r : Refusal} {offset : ℕ} → stepOf rest ≡ step.Fault r offset → reads at rest ≡ nothing at (Faulty (record { refusal = r; place = at + offset }))
+  unfolding reads
+  reads-fault e = unfolds (length rest) at rest ∙ rw e
+
+  pub reads-record : (k : Kind) → stepOf rest ≡ step.Record k → reads at rest ≡ before (entryAt at rest k) (reads (at + rowOf k .size) (drop (rowOf k .size) rest))
+  unfolding reads
+  reads-record k e =
+      let w = step-whole rest k e in
+      let size = rowOf k .size in
+      let less : length (drop size rest) < length rest = omega (arith, length-drop size rest, w .1, w .2) in
+      unfolds (length rest) at rest
+      ∙ rw e (ap (before (entryAt at rest k)) (same-bound (length rest) (suc (length (drop size rest))) (at + size) (drop size rest) (omega arith) (omega arith)))
+
+pub survey-long : (s : List ℕ) → 4096 < length s → survey s ≡ nothing 0 (Faulty (record { refusal = refusal.TooLong; place = 0 }))
+unfolding survey if_then_else_
+survey-long s l = rw (lt-ltb _ _ l)
+
+pub survey-short : (s : List ℕ) → length s ≤ 4096 → survey s ≡ reads 0 s
+unfolding survey reads if_then_else_
+survey-short s l = rw (le-ltb _ _ l)
+
+-- ---- the records one after another
+
+abbrev pub flat : List Entry → List ℕ
+flat [] = []
+flat (e ∷ es) = e .bytes ++ flat es
+
+abbrev pub Listed : ℕ → List Entry → Type 0
+Listed at [] = Unit {0}
+Listed at (e ∷ es) = (e .place ≡ at) × Whole (e .kind) (e .bytes) × Listed (at + length (e .bytes)) es
+
+abbrev pub Ended : ℕ → Step → Ending → Type 0
+Ended at step.Ends how = how ≡ Sound
+Ended at (step.Fault r offset) how = how ≡ Faulty (record { refusal = r; place = at + offset })
+Ended at (step.Record k) how = ⊥
+
+pub record Parts (at : ℕ) (rest : List ℕ) (v : Survey) : Type 0 where
+  pub tail : List ℕ
+  pub parts : rest ≡ flat (v .records) ++ tail
+  pub listed : Listed at (v .records)
+  pub end-is : v .end ≡ at + length (flat (v .records))
+  pub last : Ended (v .end) (stepOf tail) (v .ending)
+
+pub parts-of : (most at : ℕ) (rest : List ℕ) → length rest < most → Parts at rest (surveyFrom most at rest)
+parts-of zero at rest l = absurd (not-suc-le-zero l)
+parts-of (suc most) at rest l = subst (Parts at rest) (sym (unfolds most at rest)) (by-step (stepOf rest) refl (λ p t. parts-of most p t))
+  where
+    Later : ℕ → Survey
+    Later size = surveyFrom most (at + size) (drop size rest)
+
+    none : (how : Ending) → Ended at (stepOf rest) how → Parts at rest (nothing at how)
+    none how e = record { tail = rest; parts = refl; listed = tt; end-is = omega arith; last = e }
+
+    by-step : (x : Step) → stepOf rest ≡ x → ((p : ℕ) (t : List ℕ) → length t < most → Parts p t (surveyFrom most p t)) → Parts at rest (found at rest Later x)
+    by-step step.Ends q f = none Sound (rw q refl)
+    by-step (step.Fault r offset) q f = none (Faulty (record { refusal = r; place = at + offset })) (rw q refl)
+    by-step (step.Record k) q f =
+        let w = step-whole rest k q in
+        let size = rowOf k .size in
+        let long = w .0 .long in
+        let h = f (at + size) (drop size rest) (omega (arith, length-drop size rest, w .1, w .2)) in
+        record {
+          tail = h .tail;
+          parts = sym (take-append-drop size rest) ∙ ap (λ (y : List ℕ). take size rest ++ y) (h .parts) ∙ sym (append-assoc (take size rest) (flat (Later size .records)) (h .tail));
+          listed = (refl, w .0, subst (λ (n : ℕ). Listed (at + n) (Later size .records)) (sym long) (h .listed));
+          end-is = omega (arith, h .end-is, long, length-append (take size rest) (flat (Later size .records)));
+          last = h .last;
+        }
+
+-- whole records and a tail that ends them are found as they stand
+of-parts : (at : ℕ) (es : List Entry) (tail : List ℕ) → Listed at es → stepOf tail ≡ step.Ends
+    → reads at (flat es ++ tail) ≡ record { records = es; end = at + length (flat es); ending = Sound }
+of-parts at [] tail w e = reads-ends at tail e ∙ ap (λ (n : ℕ). nothing n Sound) (omega arith)
+of-parts at (x ∷ xs) tail w e =
+    let rest = flat xs ++ tail in
+    let a : flat (x ∷ xs) ++ tail ≡ x .bytes ++ rest = append-assoc (x .bytes) (flat xs) tail in
+    let long = w .1 .long in
+    let size = rowOf (x .kind) .size in
+    let first : entryAt at (x .bytes ++ rest) (x .kind) ≡ x =
+    λ i. record { place = sym (w .0) i; kind = x .kind; bytes = take-at (x .bytes) rest size long i }
+    in
+    let back : drop size (x .bytes ++ rest) ≡ rest = drop-at (x .bytes) rest size long in
+    let later = of-parts (at + length (x .bytes)) xs tail (w .2) e in
+    ap (reads at) a
+    ∙ reads-record at (x .bytes ++ rest) (x .kind) (whole-step (w .1) rest)
+    ∙ (λ i. before (first i) (reads (at + sym long i) (back i)))
+    ∙ ap (before x) later
+    ∙ ap (λ (n : ℕ). record { records = x ∷ xs; end = n; ending = Sound }) (omega (arith, length-append (x .bytes) (flat xs)))
+
+pub survey-of : (s : List ℕ) (es : List Entry) (tail : List ℕ) → length s ≤ 4096 → s ≡ flat es ++ tail → Listed 0 es → stepOf tail ≡ step.Ends
+    → survey s ≡ record { records = es; end = length (flat es); ending = Sound }
+survey-of s es tail l p w e = survey-short s l ∙ ap (reads 0) p ∙ of-parts 0 es tail w e ∙ ap (λ (n : ℕ). record { records = es; end = n; ending = Sound }) (omega arith)
+
+-- ---- what an outcome says
+
+sound-as : (how : Ending) (es : List Entry) {rs : List Entry} → soundly how es ≡ given rs → (how ≡ Sound) × (es ≡ rs)
+sound-as Sound es e = (refl, given-once e)
+sound-as (Faulty f) es e = no-answer (sym e)
+
+faulty-as : (how : Ending) (es : List Entry) {f : Fault} → soundly how es ≡ refused f → how ≡ Faulty f
+faulty-as Sound es e = no-answer e
+faulty-as (Faulty f) es e = ap Faulty (refused-once {A = List Entry} e)
+
+pub sound-of : (s : List ℕ) {es : List Entry} → outcome s ≡ given es → (survey s .ending ≡ Sound) × (survey s .records ≡ es)
+sound-of s = sound-as (survey s .ending) (survey s .records)
+
+pub faulty-of : (s : List ℕ) {f : Fault} → outcome s ≡ refused f → survey s .ending ≡ Faulty f
+faulty-of s = faulty-as (survey s .ending) (survey s .records)
+
+pub faulty-once : {f g : Fault} → Faulty f ≡ Faulty g → f ≡ g
+faulty-once e = cc
+
+pub short-of : (s : List ℕ) → survey s .ending ≡ Sound → length s ≤ 4096
+short-of s e =
+    by-order (length s) 4096 (λ l. l) (λ l.
+    let q : Faulty (record { refusal = refusal.TooLong; place = 0 }) ≡ Sound = sym (ap (λ (v : Survey). v .ending) (survey-long s l)) ∙ e in
+    let z : _≡_ {A = ℕ} 0 1 = cc in
+    absurd (omega arith))
+
+pub sheet-parts : (s : List ℕ) → length s ≤ 4096 → Parts 0 s (survey s)
+unfolding reads
+sheet-parts s l = subst (Parts 0 s) (sym (survey-short s l)) (parts-of (suc (length s)) 0 s (omega arith))

@@ -1,0 +1,100 @@
+-- What each call promises. For every answer there is a definition of 01's number and of its values in each case, and the promises speak through it.
+--   answerOfChecked, answerOfReading, answerOfLocation, answerOfChange   an answer in 01's terms
+--   countOf, pointsOfEntry, placeOf    what check, read and locate say of the records, and of the one that was asked for
+--   part       the bytes of a chosen record: none where it is refused
+--   Changes    what a call that writes a sheet says and leaves
+--   erasing    the sheet that erase is to leave
+--   appending  the sheet that append is to leave
+--   curvesIn   the curves of a sheet, each as its points
+--   Checks, Reads, Locates, Finds, Erases, Appends     the promises
+use mathlib.Core.Path.{_≡_}
+use mathlib.Core.List.{List, [], _∷_, _++_, map}
+use Prim.Native.Nat.{ℕ}
+use lib.Dec.{ltb}
+use lib.ListN.{length, replicate}
+use Rattle.refusal.specs.declared.Refusal.the-variants as refusal
+use Rattle.refusal.specs.Answers.{Answer, refused, given, refuse, then-given, with-given, if_then_else_}
+use Rattle.pair.specs.declared.Pair.{Pair}
+use Rattle.curve.specs.declared.Curve.{Curve}
+use Rattle.curve.specs.Curves.{pointsOf}
+use Rattle.record.specs.Kinds.{kindOf, numbersOf, pointsIn}
+use Rattle.record.specs.Promise.{puttingAt, bytesAfter}
+use Rattle.sheet.specs.declared.Checked.{Checked}
+use Rattle.sheet.specs.declared.Checked.the-variants as checked
+use Rattle.sheet.specs.declared.Reading.{Reading}
+use Rattle.sheet.specs.declared.Reading.the-variants as reading
+use Rattle.sheet.specs.declared.Location.{Location}
+use Rattle.sheet.specs.declared.Location.the-variants as location
+use Rattle.sheet.specs.declared.Change.{Change}
+use Rattle.sheet.specs.declared.Change.the-variants as change
+use Rattle.sheet.specs.Survey.{Entry, survey, outcome, curves, chosen}
+
+abbrev pub answerOfChecked : Checked → Answer ℕ
+answerOfChecked (checked.Curves n) = given n
+answerOfChecked (checked.Refused f) = refused f
+
+abbrev pub answerOfReading : Reading → Answer (List Pair)
+answerOfReading (reading.Points c) = given (pointsOf c)
+answerOfReading (reading.Refused f) = refused f
+
+abbrev pub answerOfLocation : Location → Answer (List ℕ)
+answerOfLocation (location.At place length) = given (place ∷ length ∷ [])
+answerOfLocation (location.Refused f) = refused f
+
+-- of a call after which the sheet is t
+abbrev pub answerOfChange : List ℕ → Change → Answer (List ℕ)
+answerOfChange t change.Done = given t
+answerOfChange t (change.Refused f) = refused f
+
+abbrev pub countOf : List Entry → ℕ
+countOf es = length (curves es)
+
+abbrev pub pointsOfEntry : Entry → List Pair
+pointsOfEntry e = pointsIn (e .bytes)
+
+abbrev pub placeOf : Entry → List ℕ
+placeOf e = e .place ∷ length (e .bytes) ∷ []
+
+abbrev pub part : Answer Entry → List ℕ
+part (refused f) = []
+part (given e) = e .bytes
+
+-- check: how many curves the sheet has
+abbrev pub Checks : List ℕ → Checked → Type 0
+Checks s r = answerOfChecked r ≡ with-given countOf (outcome s)
+
+-- read: the points of the curve of a number
+abbrev pub Reads : List ℕ → ℕ → Reading → Type 0
+Reads s number r = answerOfReading r ≡ with-given pointsOfEntry (chosen number s)
+
+-- locate: where the record of the curve of a number stands
+abbrev pub Locates : List ℕ → ℕ → Location → Type 0
+Locates s number r = answerOfLocation r ≡ with-given placeOf (chosen number s)
+
+-- find: the record itself, and nothing where it is refused
+abbrev pub Finds : List ℕ → ℕ → List ℕ → Type 0
+Finds s number x = x ≡ part (chosen number s)
+
+-- a call on a sheet s that writes: afterwards the sheet is t
+pub record Changes (s : List ℕ) (asked : Answer (List ℕ)) (t : List ℕ) (r : Change) : Type 0 where
+  pub says : answerOfChange t r ≡ asked
+  pub leaves : t ≡ bytesAfter s asked
+
+unfoldable pub erasing : List ℕ → Answer (List ℕ)
+erasing s = if ltb 4096 (length s) then refuse refusal.TooLong 0 else given (replicate (length s) 255)
+
+-- erase
+abbrev pub Erases : List ℕ → List ℕ → Change → Type 0
+Erases s t r = Changes s (erasing s) t r
+
+-- where the records end, the erased tail begins
+unfoldable pub appending : List ℕ → Curve → Answer (List ℕ)
+appending s c = then-given (λ es. puttingAt s (survey s .end) (kindOf c) (numbersOf (pointsOf c))) (outcome s)
+
+unfoldable pub curvesIn : List ℕ → Answer (List (List Pair))
+curvesIn s = with-given (λ es. map pointsOfEntry (curves es)) (outcome s)
+
+-- append: what is left is asked for byte by byte, and it lists the old curves and then the new one
+pub record Appends (s : List ℕ) (c : Curve) (t : List ℕ) (r : Change) : Type 0 where
+  pub changes : Changes s (appending s c) t r
+  pub lists : r ≡ change.Done → curvesIn t ≡ with-given (λ (old : List (List Pair)). old ++ (pointsOf c ∷ [])) (curvesIn s)

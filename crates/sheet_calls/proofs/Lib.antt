@@ -1,0 +1,2 @@
+-- One answer of each call.
+pub mod Once

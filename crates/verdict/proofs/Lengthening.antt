@@ -1,0 +1,36 @@
+-- The squares of D's parts stay within what N may be.
+--   slight-small      a part of D is small enough to be squared
+--   square-sized      and no coefficient of its square passes 10¹³
+use mathlib.Core.Path.{refl}
+use mathlib.Core.List.{List, [], _∷_}
+use Prim.Native.Nat.{ℕ, zero, suc, zero-le}
+use native.Mathlib.Omega.{arith}
+use lib.IntN.{ℤ}
+use Rattle.whole.specs.Poly.{at, sum, scaled, product, square}
+use Rattle.whole.specs.Number.{wholes, Within}
+use Rattle.whole.proofs.Wholes.{readℤ, read-pos}
+use Rattle.whole.proofs.Bound.{Bounded, done, _▸_, bounds, within}
+use Rattle.root.specs.declared.Quartic.{Quartic}
+use Rattle.root.specs.Search.{Each}
+use Rattle.root.specs.Roots.{quartic, Small}
+use Rattle.verdict.specs.Steps.{Slight}
+
+pub slight-small : (p : List ℤ) → Slight p → Each wholes Small p
+slight-small p h k = record { size = omega (arith, h k .size) }
+
+module _ (q : Quartic) (h : Slight (quartic q)) where
+  sizes : Bounded (1280000 ∷ 1280000 ∷ 1280000 ∷ 1280000 ∷ 1280000 ∷ []) (q .q0 ∷ q .q1 ∷ q .q2 ∷ q .q3 ∷ q .q4 ∷ [])
+  sizes = h 0 ▸ h 1 ▸ h 2 ▸ h 3 ▸ h 4 ▸ done
+
+  pub square-sized : (k : ℕ) → Within 10000000000000 (at wholes (square wholes (quartic q)) k)
+  unfolding sum scaled product
+  square-sized zero = bounds sizes (λ ρ e k. simp (e 0, readℤ, read-pos ρ 0) (within k _ refl))
+  square-sized (suc zero) = bounds sizes (λ ρ e k. simp (e 0, e 1, readℤ, read-pos ρ 0) (within k _ refl))
+  square-sized (suc (suc zero)) = bounds sizes (λ ρ e k. simp (e 0, e 1, e 2, readℤ, read-pos ρ 0) (within k _ refl))
+  square-sized (suc (suc (suc zero))) = bounds sizes (λ ρ e k. simp (e 0, e 1, e 2, e 3, readℤ, read-pos ρ 0) (within k _ refl))
+  square-sized (suc (suc (suc (suc zero)))) = bounds sizes (λ ρ e k. simp (e 0, e 1, e 2, e 3, e 4, readℤ, read-pos ρ 0) (within k _ refl))
+  square-sized (suc (suc (suc (suc (suc zero))))) = bounds sizes (λ ρ e k. simp (e 1, e 2, e 3, e 4, readℤ, read-pos ρ 0) (within k _ refl))
+  square-sized (suc (suc (suc (suc (suc (suc zero)))))) = bounds sizes (λ ρ e k. simp (e 2, e 3, e 4, readℤ, read-pos ρ 0) (within k _ refl))
+  square-sized (suc (suc (suc (suc (suc (suc (suc zero))))))) = bounds sizes (λ ρ e k. simp (e 3, e 4, readℤ, read-pos ρ 0) (within k _ refl))
+  square-sized (suc (suc (suc (suc (suc (suc (suc (suc zero)))))))) = bounds sizes (λ ρ e k. simp (e 4, readℤ, read-pos ρ 0) (within k _ refl))
+  square-sized (suc (suc (suc (suc (suc (suc (suc (suc (suc k))))))))) = record { size = zero-le }

@@ -1,0 +1,21 @@
+-- The theory of verdicts, up to what `recognise` cites.
+pub mod Multiples
+pub mod Quarters
+pub mod RootSizes
+pub mod EndLegs
+pub mod Lengthening
+pub mod Conjugates
+pub mod Coprime
+pub mod Signs
+pub mod Squares
+pub mod Generators
+pub mod Norms
+pub mod Carried
+pub mod Once
+pub mod Refusals
+pub mod Moved
+pub mod Normal
+pub mod Cover
+pub mod FoundSizes
+pub mod Turned
+pub mod Known

@@ -1,0 +1,83 @@
+# The parts of ./yard that are its tests, in the order in which all_tests runs them.
+
+# What is cheap comes first: the layout, and that the documents' table is that of the wrong programs.
+hold_layout() {
+    rt fmt --check
+    ! cargo fmt --version >/dev/null 2>&1 || cargo fmt --check --manifest-path reference/Cargo.toml
+    sed -n '/^| what | wrong programs |$/,/^$/p' docs/GATE.md | sed '/^$/d' >"$room/documented"
+    wrong_table | diff "$room/documented" -
+    enough_wrong_programs
+}
+
+# The expected answers are those of the second program, which its own tests hold to the document.
+hold_to_second_program() {
+    cargo test --quiet --release --offline --manifest-path reference/Cargo.toml
+    second_program
+    "$second" expect crates/trials/stdin | diff - crates/trials/stdout
+    for text in samples/*.txt; do
+        "$second" sheet "$text" "$room/made"
+        cmp "$room/made" "${text%.txt}.sheet"
+        "$second" report "$room/made" >"$room/expected" || [ $? -eq 1 ]
+        diff "$room/expected" "${text%.txt}.report"
+    done
+}
+
+# `rt ci`, with what it says kept: its last line is the last of the tests too.
+gate() {
+    { status=0 && rt ci || status=$?; echo "$status" >"$room/status"; } 2>&1 | tee "$room/gate"
+    read -r status <"$room/status"
+    return "$status"
+}
+
+# The example in C: each command of the expected text, and what it says.
+hold_example() {
+    build_c examples/rover.c
+    sed -n 's/^\$ rover //p' examples/rover.txt | while read -r words; do
+        echo "\$ rover $words"
+        ${emulator:+"$emulator"} "$room/rover" $words || echo "status $?"
+    done >"$room/answer"
+    diff examples/rover.txt "$room/answer"
+}
+
+# Each sample's text and status, by the program that was proved. Among them are an empty sheet, one of 4,096 bytes and one of 4,097.
+hold_samples() {
+    for sheet in samples/*.sheet; do
+        expected=0
+        ! grep -q '^refused ' "${sheet%.sheet}.report" || expected=1
+        status=0
+        report "$sheet" >"$room/answer" || status=$?
+        diff "${sheet%.sheet}.report" "$room/answer"
+        [ "$status" -eq "$expected" ] || { echo "yard: $sheet: status $status, not $expected" >&2 && exit 1; }
+    done
+}
+
+# A sheet that comes in parts, by a byte, by a few and the rest, is the same sheet.
+hold_parts() {
+    for sheet in mission too_long; do
+        { head -c 1 "samples/$sheet.sheet" && sleep 0.2 && tail -c +2 "samples/$sheet.sheet" | head -c 50 && sleep 0.2 && tail -c +52 "samples/$sheet.sheet"; } |
+            report - >"$room/answer" || [ $? -eq 1 ]
+        diff "samples/$sheet.report" "$room/answer"
+    done
+}
+
+# What ./yard ask says: each command of the expected text, its lines and its status.
+hold_questions() {
+    sed -n "s/^\$ .\/yard ask '\(.*\)'$/\1/p" examples/ask.txt | while read -r call; do
+        echo "\$ ./yard ask '$call'"
+        printf '%s\n' "$call" | ask || echo "status $?"
+    done >"$room/answer"
+    diff examples/ask.txt "$room/answer"
+}
+
+all_tests() {
+    hold_layout
+    hold_to_second_program
+    gate
+    hold_samples
+    hold_parts
+    hold_questions
+    prepare_library
+    compare_library 20000 1
+    hold_example
+    tail -n 1 "$room/gate"
+}
