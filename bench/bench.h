@@ -4,6 +4,7 @@
 
 #include "yard.h"
 
+/* CURVES of the mix, and as many near misses. */
 enum { CURVES = 3000, ENDS = 2000, SHEETS = 8 };
 
 struct curve {
@@ -17,15 +18,17 @@ struct ends {
 };
 
 extern struct curve curves[CURVES];
+extern struct curve near_misses[CURVES];
 extern struct ends ends[ENDS];
 extern uint8_t sheets[SHEETS][YARD_SHEET_BYTES];
 
-/* Fills the three above, with the same inputs in every run. */
+/* Fills the four above, with the same inputs in every run. */
 void draw_inputs(void);
 
-/* The plain versions in reference/src/plain; quick is with the quick refusal. */
+/* The plain versions in reference/src/plain; quick is with the quick refusal, by legs with the rules on legs. */
 int64_t plain_recognise(const int64_t *p, size_t n, int64_t *out, size_t room);
 int64_t plain_recognise_quick(const int64_t *p, size_t n, int64_t *out, size_t room);
+int64_t plain_recognise_by_legs(const int64_t *p, size_t n, int64_t *out, size_t room);
 int64_t plain_joins(int64_t ax, int64_t ay, int64_t zx, int64_t zy, int64_t tx, int64_t ty, int64_t *out, size_t room);
 int64_t plain_check(const uint8_t *s, size_t len);
 int64_t plain_report(const uint8_t *s, size_t len, uint8_t *text, size_t room);
@@ -39,7 +42,8 @@ struct row {
     const char *job, *who;
     any_call *call;
     void (*pass)(const struct row *row);
-    int64_t verdict; /* of the curves that the pass is over; ALL for the whole mix */
+    const struct curve *curves; /* that the pass is over; NULL where it is over other inputs */
+    int64_t verdict;            /* of the curves that it takes; ALL for every input */
 };
 enum { ALL = -1 };
 extern const struct row rows[];

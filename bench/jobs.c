@@ -42,13 +42,13 @@ static void report_one(const struct row *row, const uint8_t *sheet) {
 
 /* Whether the pass makes a call on input k. */
 static int has(const struct row *row, size_t k) {
-    return row->verdict == ALL || row->verdict == curves[k].verdict;
+    return row->verdict == ALL || row->verdict == row->curves[k].verdict;
 }
 
 static void pass_recognise(const struct row *row) {
     for (size_t k = 0; k < CURVES; k++)
         if (has(row, k))
-            recognise_one(row, &curves[k]);
+            recognise_one(row, &row->curves[k]);
 }
 
 static void pass_joins(const struct row *row) {
@@ -67,27 +67,29 @@ static void pass_report(const struct row *row) {
 }
 
 #define CALL(name) (any_call *)name
-#define RECOGNISERS(job, verdict) \
-    {job, "library", CALL(yard_recognise), pass_recognise, verdict}, \
-    {job, "plain", CALL(plain_recognise), pass_recognise, verdict}, \
-    {job, "plain, quick", CALL(plain_recognise_quick), pass_recognise, verdict}
+#define RECOGNISERS(job, over, verdict) \
+    {job, "library", CALL(yard_recognise), pass_recognise, over, verdict}, \
+    {job, "plain", CALL(plain_recognise), pass_recognise, over, verdict}, \
+    {job, "plain, quick", CALL(plain_recognise_quick), pass_recognise, over, verdict}, \
+    {job, "plain, by legs", CALL(plain_recognise_by_legs), pass_recognise, over, verdict}
 
 /* Rows of one job stand together, the library first. */
 const struct row rows[] = {
-    RECOGNISERS("recognise", ALL),
+    RECOGNISERS("recognise", curves, ALL),
 #ifdef WITH_FLINT
-    {"recognise", "FLINT", CALL(flint_recognise), pass_recognise, ALL},
+    {"recognise", "FLINT", CALL(flint_recognise), pass_recognise, curves, ALL},
 #endif
-    RECOGNISERS("recognise: no", YARD_VERDICT_NO),
-    RECOGNISERS("recognise: pre", YARD_VERDICT_PRE),
-    RECOGNISERS("recognise: ph", YARD_VERDICT_PH),
-    RECOGNISERS("recognise: still", YARD_VERDICT_STILL),
-    {"joins", "library", CALL(yard_joins), pass_joins, ALL},
-    {"joins", "plain", CALL(plain_joins), pass_joins, ALL},
-    {"sheet check", "library", CALL(yard_check), pass_check, ALL},
-    {"sheet check", "plain", CALL(plain_check), pass_check, ALL},
-    {"report", "library", CALL(yard_report), pass_report, ALL},
-    {"report", "plain", CALL(plain_report), pass_report, ALL},
+    RECOGNISERS("recognise: no", curves, YARD_VERDICT_NO),
+    RECOGNISERS("recognise: near miss", near_misses, ALL),
+    RECOGNISERS("recognise: pre", curves, YARD_VERDICT_PRE),
+    RECOGNISERS("recognise: ph", curves, YARD_VERDICT_PH),
+    RECOGNISERS("recognise: still", curves, YARD_VERDICT_STILL),
+    {"joins", "library", CALL(yard_joins), pass_joins, NULL, ALL},
+    {"joins", "plain", CALL(plain_joins), pass_joins, NULL, ALL},
+    {"sheet check", "library", CALL(yard_check), pass_check, NULL, ALL},
+    {"sheet check", "plain", CALL(plain_check), pass_check, NULL, ALL},
+    {"report", "library", CALL(yard_report), pass_report, NULL, ALL},
+    {"report", "plain", CALL(plain_report), pass_report, NULL, ALL},
 };
 const size_t row_count = sizeof rows / sizeof *rows;
 
@@ -104,7 +106,7 @@ size_t calls_of(const struct row *row) {
 
 static void one(const struct row *row, size_t k) {
     if (row->pass == pass_recognise)
-        recognise_one(row, &curves[k]);
+        recognise_one(row, &row->curves[k]);
     else if (row->pass == pass_joins)
         join_one(row, &ends[k]);
     else if (row->pass == pass_check)

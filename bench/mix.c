@@ -1,8 +1,9 @@
 /* The inputs: half of the curves random and not Pythagorean, a third with a pre-image, the rest ph and still; ends
- * with 0 to 4 triples between them; full sheets of those curves. Drawn from one seed. */
+ * with 0 to 4 triples between them; full sheets of those curves; near misses. Drawn from one seed. */
 #include "bench.h"
 
 struct curve curves[CURVES];
+struct curve near_misses[CURVES];
 struct ends ends[ENDS];
 uint8_t sheets[SHEETS][YARD_SHEET_BYTES];
 
@@ -97,6 +98,11 @@ static void draw_still(struct curve *c) {
         c->p[k] = k < 2 ? part(20000) : c->p[k - 2];
 }
 
+static int is(const struct curve *c, int64_t verdict) {
+    int64_t out[YARD_VERDICT_NUMBERS];
+    return plain_recognise(c->p, c->count, out, YARD_VERDICT_NUMBERS) >= 0 && out[0] == verdict;
+}
+
 /* A curve of that verdict; one that passes the range, or turns out otherwise, is drawn again. */
 static void draw_curve(struct curve *c, int64_t verdict) {
     static void (*const how[])(struct curve *) = {
@@ -105,12 +111,11 @@ static void draw_curve(struct curve *c, int64_t verdict) {
         [YARD_VERDICT_PH] = draw_with_real_factor,
         [YARD_VERDICT_PRE] = draw_square,
     };
-    int64_t out[YARD_VERDICT_NUMBERS];
     c->verdict = verdict;
     c->count = draw(2) ? YARD_CUBIC_NUMBERS : YARD_QUINTIC_NUMBERS;
     do
         how[verdict](c);
-    while (plain_recognise(c->p, c->count, out, YARD_VERDICT_NUMBERS) < 0 || out[0] != verdict);
+    while (!is(c, verdict));
 }
 
 static void draw_curves(void) {
@@ -124,6 +129,18 @@ static void draw_curves(void) {
         struct curve kept = curves[k];
         curves[k] = curves[other];
         curves[other] = kept;
+    }
+}
+
+/* One coordinate is one off; of five curves four had a pre-image and one was ph, as in the mix. */
+static void draw_near_misses(void) {
+    for (size_t k = 0; k < CURVES; k++) {
+        struct curve *c = &near_misses[k];
+        do {
+            draw_curve(c, k % 5 < 4 ? YARD_VERDICT_PRE : YARD_VERDICT_PH);
+            c->p[draw(c->count)] += draw(2) ? 1 : -1;
+            c->verdict = YARD_VERDICT_NO;
+        } while (!is(c, c->verdict));
     }
 }
 
@@ -196,4 +213,5 @@ void draw_inputs(void) {
     draw_curves();
     draw_ends();
     draw_sheets();
+    draw_near_misses();
 }

@@ -27,16 +27,14 @@ use Rattle.divisor.proofs.Units.{norm-unit}
 use Rattle.divisor.proofs.Roots.{first-some}
 use Rattle.root.specs.Search.{Lead}
 use Rattle.root.specs.Roots.{quartic, LeadPositive}
-use Rattle.root.specs.Pairs.{quadratic, LeadKept}
 use Rattle.curve.specs.Curves.{squaredLength}
-use Rattle.curve.proofs.Lengths.{squaredLength-lead-positive}
 use Rattle.verdict.specs.declared.Square.{Square}
 use Rattle.verdict.specs.declared.Preimage.{Preimage}
-use Rattle.verdict.specs.Verdicts.{Squared, Generated, NotSquared, NotGenerated, Coprime, SquareOf, PreimageOf}
+use Rattle.verdict.specs.Verdicts.{Squared, Generated, NotSquared, NotGenerated, Coprime, SquareOf, PreimageOf, quadratic, LeadKept}
 use Rattle.verdict.proofs.Coprime.{coprime-primitive, primitive-coprime}
 use Rattle.verdict.proofs.Multiples.{generated-squared}
 use Rattle.verdict.proofs.Norms.{generated-content}
-use Rattle.verdict.proofs.Signs.{first-top}
+use Rattle.verdict.proofs.Signs.{first-top, squaredLength-lead-positive}
 
 pub not-squared : (D : List Pair) (x y : ℤ) → Between (value wholes x (squaredLength D) *ℤ value wholes y (squaredLength D)) → NotSquared D
 not-squared D x y b c q h s = between-no-square b (c *ℤ (value wholes x q *ℤ value wholes y q)) (values-square wholes-ring (squaredLength D) q c x y s)

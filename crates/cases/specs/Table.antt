@@ -14,7 +14,7 @@ use lib.IntN.{ℤ, pos, negℤ}
 use Rattle.pair.specs.declared.Pair.{Pair}
 use Rattle.pair.specs.Pairs.{pair}
 use Rattle.root.specs.declared.Quartic.{Quartic}
-use Rattle.root.specs.declared.pairs.Quadratic.{Quadratic}
+use Rattle.verdict.specs.declared.Quadratic.{Quadratic}
 use Rattle.curve.specs.declared.Curve.{Curve}
 use Rattle.curve.specs.declared.Curve.the-variants.{Cubic, Quintic}
 use Rattle.verdict.specs.declared.Verdict.{Verdict}

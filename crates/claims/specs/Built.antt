@@ -6,7 +6,7 @@ use mathlib.Core.List.{List}
 use Rattle.whole.specs.Poly.{Same, scaled, square}
 use Rattle.pair.specs.declared.Pair.{Pair}
 use Rattle.pair.specs.Pairs.{pairs}
-use Rattle.root.specs.Pairs.{quadratic}
+use Rattle.verdict.specs.Verdicts.{quadratic}
 use Rattle.curve.specs.declared.Curve.{Curve}
 use Rattle.curve.specs.Curves.{pointsOf, powerForm}
 use Rattle.verdict.specs.declared.Preimage.{Preimage}

@@ -7,8 +7,7 @@
 --   re-above, im-above            where D has no power above n, its parts have none,
 --   squaredLength-above           and N has none above 2 n,
 --   squaredLength-lead            where it has the norm of D's n-th coefficient
---   squaredLength-top             the highest power of N is twice that of D,
---   squaredLength-lead-positive   and its coefficient is positive
+--   squaredLength-top             the highest power of N is twice that of D
 --   squaredLength-zero            N is 0 exactly where D is
 --   pairForm                      sⁿ D(v / s),
 --   squaredLength-form            of which s²ⁿ N(v / s) is the norm
@@ -31,9 +30,7 @@ use Rattle.poly.proofs.Top.{length-above, conv-above, conv-lead, top-some, find
 use Rattle.poly.proofs.Forms.{form, form-plus, form-product}
 use Rattle.pair.specs.declared.Pair.{Pair}
 use Rattle.pair.specs.Pairs.{pair, pairs, norm}
-use Rattle.pair.proofs.Laws.{pairs-ring, norm-zero, norm-some}
-use Rattle.divisor.proofs.Divisors.{pair-zero?}
-use Rattle.root.specs.Roots.{LeadPositive}
+use Rattle.pair.proofs.Laws.{pairs-ring, norm-zero, norm-some, pair-zero?}
 use Rattle.curve.specs.Curves.{reals, imaginaries, squaredLength}
 
 -- ---- N as a series, from D as one
@@ -136,13 +133,6 @@ module _ (D : List Pair) (n : ℕ) (u : Above pairs (at pairs D) n) where
 pub squaredLength-top : {D : List Pair} {L : ℕ} → Top pairs D L → Top wholes (squaredLength D) (L + L)
 squaredLength-top {D} {L} t = record {
   lead = λ z. t .lead (norm-zero (at pairs D L) (sym (squaredLength-lead D L (t .above)) ∙ z));
-  above = squaredLength-above D L (t .above);
-}
-
-pub squaredLength-lead-positive : {D : List Pair} {L : ℕ} → Top pairs D L → LeadPositive (squaredLength D)
-squaredLength-lead-positive {D} {L} t = record {
-  power = L + L;
-  positive = rw (squaredLength-lead D L (t .above)) (norm-some (at pairs D L) (t .lead));
   above = squaredLength-above D L (t .above);
 }
 

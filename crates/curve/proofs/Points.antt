@@ -1,6 +1,5 @@
 -- The points of a curve, and still curves of any number of points.
 --   curve-once       a curve is known by its points
---   reals-within, imaginaries-within     in range, the parts of the points are coordinates
 --   still-legs       D = 0 exactly when every leg is 0,
 --   still-points     exactly when all points are equal
 use mathlib.Core.Path.{_≡_, refl, sym, ap, _∙_}
@@ -16,8 +15,7 @@ use Rattle.pair.specs.Pairs.{pairs, minus}
 use Rattle.pair.proofs.Laws.{pairs-ring}
 use Rattle.curve.specs.declared.Curve.{Curve}
 use Rattle.curve.specs.declared.Curve.the-variants.{Cubic, Quintic}
-use Rattle.curve.specs.Curves.{pointsOf, InRange, differences, legPolynomial, reals, imaginaries}
-use Rattle.curve.specs.Steps.{Coordinates}
+use Rattle.curve.specs.Curves.{pointsOf, differences, legPolynomial}
 use Rattle.curve.proofs.PowerForms.{powerForm-zero}
 
 pub curve-once : (c d : Curve) → pointsOf c ≡ pointsOf d → c ≡ d
@@ -26,15 +24,6 @@ curve-once (Cubic c) (Quintic d) e = absurd (omega (arith, ap length e))
 curve-once (Quintic c) (Cubic d) e = absurd (omega (arith, ap length e))
 curve-once (Quintic c) (Quintic d) e =
     λ i. Quintic (record { p0 = at pairs (e i) 0; p1 = at pairs (e i) 1; p2 = at pairs (e i) 2; p3 = at pairs (e i) 3; p4 = at pairs (e i) 4; p5 = at pairs (e i) 5 })
-
--- ---- the parts
-pub reals-within : (ps : List Pair) → InRange ps → Coordinates (reals ps)
-reals-within [] h = tt
-reals-within (p ∷ ps) h = (h .0 .re, reals-within ps (h .1))
-
-pub imaginaries-within : (ps : List Pair) → InRange ps → Coordinates (imaginaries ps)
-imaginaries-within [] h = tt
-imaginaries-within (p ∷ ps) h = (h .0 .im, imaginaries-within ps (h .1))
 
 -- ---- the legs
 minus-zero : (p q : Pair) → minus q p ≡ pairs .none → q ≡ p

@@ -1,5 +1,5 @@
 -- Power forms of lists of Bernstein coefficients.
---   powerForm-multiple      of a multiple it is the multiple
+--   powerForm-multiple, powerForm-scaled      of a multiple it is the multiple, by a whole number or by a pair
 --   powerForm-once          two lists of one length with the same power form are the same
 --   powerForm-zero          only zeros have the power form 0
 use mathlib.Core.Path.{_≡_, refl, sym, ap, ap₂, _∙_}
@@ -7,44 +7,63 @@ use mathlib.Core.List.{List, [], _∷_, map}
 use mathlib.Core.Logic.{_↔_}
 use Prim.Native.Nat.{ℕ, zero, suc, _+_, _-_, _≤_}
 use native.Mathlib.Omega.{arith}
-use lib.IntN.{ℤ, pos, _-ℤ_, _*ℤ_, *ℤ-comm, zero-*ℤ}
+use lib.IntN.{ℤ, pos, _+ℤ_, _-ℤ_, _*ℤ_, *ℤ-comm, zero-*ℤ}
 use lib.ListN.{length, length-map, List·getD-map}
-use Rattle.whole.specs.Poly.{at, Same, choose}
+use Rattle.whole.specs.Poly.{at, Same, scaled, choose}
 use Rattle.whole.proofs.Wholes.{atomsℤ, readℤ, ringℤ}
 use Rattle.poly.proofs.Binomials.{choose-positive}
 use Rattle.pair.specs.declared.Pair.{Pair}
-use Rattle.pair.specs.Pairs.{pairs, plus, minus, multiple}
+use Rattle.pair.specs.Pairs.{pairs, plus, minus, times, multiple}
 use Rattle.pair.proofs.Parts.{pair-equal}
 use Rattle.pair.proofs.Laws.{multiple-multiple, multiple-cancel}
-use Rattle.pair.proofs.PairSolver.{the, _⊞_, _⊟_, solve-pairs}
+use Rattle.pair.proofs.PairSolver.{the, _⊞_, _⊟_, _⊠_, solve-pairs}
 use Rattle.curve.specs.Curves.{differences, powers, powerForm}
 use Rattle.curve.proofs.LegPolynomial.{differences-length}
 
--- ---- multiples
-module _ (c : ℤ) where
-  minus-multiple : (p q : Pair) → minus (multiple c q) (multiple c p) ≡ multiple c (minus q p)
-  minus-multiple p q = pair-equal (part (p .re) (q .re)) (part (p .im) (q .im))
-    where
-      part : (x y : ℤ) → c *ℤ y -ℤ c *ℤ x ≡ c *ℤ (y -ℤ x)
-      part x y = atomsℤ (c ∷ x ∷ y ∷ []) (λ ρ e. simp (e 0, e 1, e 2, readℤ) (ringℤ ρ _ _ tt))
-
-  differences-multiple : (ds : List Pair) → differences (map (multiple c) ds) ≡ map (multiple c) (differences ds)
+-- ---- what is done to each pair
+module _ (f : Pair → Pair) (of-minus : (p q : Pair) → minus (f q) (f p) ≡ f (minus q p)) (of-multiple : (n : ℤ) (d : Pair) → multiple n (f d) ≡ f (multiple n d)) where
+  differences-map : (ds : List Pair) → differences (map f ds) ≡ map f (differences ds)
   unfolding differences
-  differences-multiple [] = refl
-  differences-multiple (p ∷ []) = refl
-  differences-multiple (p ∷ q ∷ ds) = ap₂ _∷_ (minus-multiple p q) (differences-multiple (q ∷ ds))
+  differences-map [] = refl
+  differences-map (p ∷ []) = refl
+  differences-map (p ∷ q ∷ ds) = ap₂ _∷_ (of-minus p q) (differences-map (q ∷ ds))
 
-  powers-multiple : (n m k : ℕ) (ds : List Pair) → powers n m k (map (multiple c) ds) ≡ map (multiple c) (powers n m k ds)
+  powers-map : (n m k : ℕ) (ds : List Pair) → powers n m k (map f ds) ≡ map f (powers n m k ds)
   unfolding powers
-  powers-multiple zero m k ds = refl
-  powers-multiple (suc n) m k [] = refl
-  powers-multiple (suc n) m k (d ∷ ds) =
-      ap₂ _∷_ (multiple-multiple (pos (choose m k)) c c (pos (choose m k)) d (*ℤ-comm (pos (choose m k)) c)) (ap (powers n m (suc k)) (differences-multiple (d ∷ ds)) ∙ powers-multiple n m (suc k) (differences (d ∷ ds)))
+  powers-map zero m k ds = refl
+  powers-map (suc n) m k [] = refl
+  powers-map (suc n) m k (d ∷ ds) =
+      ap₂ _∷_ (of-multiple (pos (choose m k)) d) (ap (powers n m (suc k)) (differences-map (d ∷ ds)) ∙ powers-map n m (suc k) (differences (d ∷ ds)))
 
-  pub powerForm-multiple : (ds : List Pair) → powerForm (map (multiple c) ds) ≡ map (multiple c) (powerForm ds)
+  powerForm-map : (ds : List Pair) → powerForm (map f ds) ≡ map f (powerForm ds)
   unfolding powerForm
-  powerForm-multiple ds =
-      ap (λ (n : ℕ). powers n (n - 1) 0 (map (multiple c) ds)) (length-map ds (multiple c)) ∙ powers-multiple (length ds) (length ds - 1) 0 ds
+  powerForm-map ds = ap (λ (n : ℕ). powers n (n - 1) 0 (map f ds)) (length-map ds f) ∙ powers-map (length ds) (length ds - 1) 0 ds
+
+pub powerForm-multiple : (c : ℤ) (ds : List Pair) → powerForm (map (multiple c) ds) ≡ map (multiple c) (powerForm ds)
+powerForm-multiple c = powerForm-map (multiple c) (λ p q. pair-equal (part (p .re) (q .re)) (part (p .im) (q .im))) (λ n d. multiple-multiple n c c n d (*ℤ-comm n c))
+  where
+    part : (x y : ℤ) → c *ℤ y -ℤ c *ℤ x ≡ c *ℤ (y -ℤ x)
+    part x y = atomsℤ (c ∷ x ∷ y ∷ []) (λ ρ e. simp (e 0, e 1, e 2, readℤ) (ringℤ ρ _ _ tt))
+
+scaled-map : (c : Pair) (ds : List Pair) → scaled pairs c ds ≡ map (times c) ds
+unfolding scaled
+scaled-map c [] = refl
+scaled-map c (d ∷ ds) = ap (λ (es : List Pair). times c d ∷ es) (scaled-map c ds)
+
+pub powerForm-scaled : (c : Pair) (ds : List Pair) → powerForm (scaled pairs c ds) ≡ scaled pairs c (powerForm ds)
+powerForm-scaled c ds =
+    ap powerForm (scaled-map c ds)
+    ∙ powerForm-map (times c) difference (λ n d. pair-equal (first n (c .re) (c .im) (d .re) (d .im)) (second n (c .re) (c .im) (d .re) (d .im))) ds
+    ∙ sym (scaled-map c (powerForm ds))
+  where
+    difference : (p q : Pair) → minus (times c q) (times c p) ≡ times c (minus q p)
+    difference p q = solve-pairs (c ∷ p ∷ q ∷ []) (the 0 ⊠ the 2 ⊟ the 0 ⊠ the 1) (the 0 ⊠ (the 2 ⊟ the 1)) tt tt
+
+    first : (n a b x y : ℤ) → n *ℤ (a *ℤ x -ℤ b *ℤ y) ≡ a *ℤ (n *ℤ x) -ℤ b *ℤ (n *ℤ y)
+    first n a b x y = atomsℤ (n ∷ a ∷ b ∷ x ∷ y ∷ []) (λ ρ e. simp (e 0, e 1, e 2, e 3, e 4, readℤ) (ringℤ ρ _ _ tt))
+
+    second : (n a b x y : ℤ) → n *ℤ (a *ℤ y +ℤ b *ℤ x) ≡ a *ℤ (n *ℤ y) +ℤ b *ℤ (n *ℤ x)
+    second n a b x y = atomsℤ (n ∷ a ∷ b ∷ x ∷ y ∷ []) (λ ρ e. simp (e 0, e 1, e 2, e 3, e 4, readℤ) (ringℤ ρ _ _ tt))
 
 -- ---- the power form decides the list
 minus-once : (p p′ q q′ : Pair) → p ≡ p′ → minus q p ≡ minus q′ p′ → q ≡ q′

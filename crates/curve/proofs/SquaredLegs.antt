@@ -15,7 +15,7 @@ use Rattle.pair.specs.declared.Pair.{Pair}
 use Rattle.pair.specs.Pairs.{pairs, plus, times, multiple}
 use Rattle.pair.proofs.Laws.{pairs-ring, multiple-cancel}
 use Rattle.pair.proofs.PairSolver.{PairEx, the, _⊞_, _⊟_, _⊠_, _··_, nought, solve-pairs}
-use Rattle.root.proofs.Squared.{quadratic-square}
+use Rattle.poly.proofs.Squares.{quadratic-square}
 use Rattle.curve.specs.Curves.{differences, powers, powerForm}
 use Rattle.curve.proofs.PowerForms.{powerForm-multiple, powerForm-once}
 

@@ -1,11 +1,11 @@
-// Planar cubics and quintics with whole points: their range, and the leg polynomial D.
+// Planar cubics and quintics with whole points: their range, their legs and the leg polynomial D.
 mod drawing;
 mod ranges;
 
 pub use drawing::drawn;
+pub use drawing::legs_of;
 use pair::Pair;
 pub use ranges::in_range;
-use root::Quartic;
 
 pub struct Cubic {
     pub p0: Pair,
@@ -28,8 +28,17 @@ pub enum Curve {
     Quintic(Quintic),
 }
 
-// D by its parts, as powers of t
-pub struct Legs {
-    pub re: Quartic,
-    pub im: Quartic,
+// The legs of a cubic or a quintic.
+pub enum Legs {
+    Cubic(Pair, Pair, Pair),
+    Quintic(Pair, Pair, Pair, Pair, Pair),
+}
+
+// e0 + e1 t + .. + e4 t^4
+pub struct Five {
+    pub e0: Pair,
+    pub e1: Pair,
+    pub e2: Pair,
+    pub e3: Pair,
+    pub e4: Pair,
 }

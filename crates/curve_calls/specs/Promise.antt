@@ -13,7 +13,7 @@ use Rattle.refusal.specs.declared.Refusal.the-variants as refusal
 use Rattle.refusal.specs.Answers.{Answer, refuse}
 use Rattle.pair.specs.declared.Pair.{Pair}
 use Rattle.root.specs.Roots.{quartic}
-use Rattle.root.specs.Pairs.{quadratic}
+use Rattle.verdict.specs.Verdicts.{quadratic}
 use Rattle.curve.specs.declared.Curve.{Curve}
 use Rattle.curve.specs.Curves.{pointsOf}
 use Rattle.verdict.specs.declared.Verdict.{Verdict}

@@ -3,6 +3,7 @@
 --   quotient-once          an exact quotient has one answer
 --   quotient-within        it is no larger than a
 --   divisor-within         a divisor of a pair other than 0 is no larger than that pair
+--   norm-within            a norm is at most twice the square of the size of the parts
 --   nearest-once           a nearest quotient has one answer
 --   nearest-within         it is no larger than a
 --   nearest-half           it leaves at most half over: 2 |a − q b|² ≤ |b|²
@@ -194,3 +195,6 @@ rest-within {B} {b} {r} k n h =
 
 pub rest-less : {a b r : Pair} → b ≢ pairs .none → Rest a b r → natAbs (norm r) < natAbs (norm b)
 rest-less {b} n h = let p = norm-some b n in omega (linear, rest-half n h, abs-parts (norm b))
+
+pub norm-within : {B C : ℕ} {b : Pair} → B * B + B * B ≤ C → PartsWithin B b → Within C (norm b)
+norm-within {b = b} l h = record { size = omega (arith, ap natAbs (norm-size b), mul-le-mul (h .re .size) (h .re .size), mul-le-mul (h .im .size) (h .im .size)) }

@@ -1,5 +1,4 @@
 -- Greatest common divisors of pairs.
---   pair-zero?         whether a pair is 0
 --   greatest-zero      a greatest common divisor is 0 only where every pair is 0, and there it is
 --   greatest-within    it is no larger than the pairs are
 --   greatest-unit      two of them differ by a unit
@@ -18,16 +17,8 @@ use Rattle.poly.proofs.Content.{greatest-associates}
 use Rattle.pair.specs.declared.Pair.{Pair}
 use Rattle.pair.specs.Pairs.{pairs, times, one, PartsWithin, AllWithin}
 use Rattle.pair.proofs.Parts.{pair-equal, zero-within}
-use Rattle.pair.proofs.Laws.{times-one, pairs-ring, pairs-domain}
+use Rattle.pair.proofs.Laws.{times-one, pairs-ring, pairs-domain, pair-zero?}
 use Rattle.divisor.proofs.Division.{divisor-within}
-
-pub pair-zero? : (a : Pair) → Dec (a ≡ pairs .none)
-pair-zero? a = by (ℤ-discrete (a .re) (pos 0)) (ℤ-discrete (a .im) (pos 0))
-  where
-    by : Dec (a .re ≡ pos 0) → Dec (a .im ≡ pos 0) → Dec (a ≡ pairs .none)
-    by (yes e) (yes f) = yes (pair-equal e f)
-    by (yes e) (no f) = no (λ h. f (ap (λ z. z .im) h))
-    by (no e) f = no (λ h. e (ap (λ z. z .re) h))
 
 zero-divides : {a : Pair} → Divides pairs (pairs .none) a → a ≡ pairs .none
 zero-divides h = sym (h .is) ∙ none-times pairs-ring (h .factor)

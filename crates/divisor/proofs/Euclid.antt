@@ -2,7 +2,6 @@
 --   nearest-exists        every quotient by a positive number has a nearest whole number
 --   pairs-euclid          the remainder of a nearest quotient has at most half of the divisor's norm
 --   pairs-bezout          so any two pairs have a common divisor a x + b y
---   twice-pair-some       2 a is not 0 where a is not
 -- With `pairs-ring` and `pairs-domain` (pair, Laws) these are all that the crate `poly` asks for.
 use mathlib.Core.Path.{_≡_, refl, sym, ap}
 use mathlib.Core.List.{[], _∷_}
@@ -15,16 +14,13 @@ use Rattle.whole.proofs.Division.{quotient-rest, rest-below}
 use Rattle.whole.proofs.Linear.{linear, minus-parts, times-parts, negative-parts, abs-parts, one-part}
 use Rattle.whole.proofs.Order.{compare}
 use Rattle.whole.proofs.Wholes.{readℤ, atomsℤ, ringℤ, equal-by, zero-equal}
-use Rattle.poly.specs.Terms.{twice}
 use Rattle.poly.proofs.Divisibility.{Bezout}
-use Rattle.poly.proofs.Domain.{twice-some}
 use Rattle.poly.proofs.Euclid.{Euclid, euclid-bezout}
 use Rattle.pair.specs.declared.Pair.{Pair}
 use Rattle.pair.specs.Pairs.{pair, pairs, plus, minus, times, conjugate, norm}
-use Rattle.pair.proofs.Laws.{pairs-ring, pairs-domain, norm-some}
+use Rattle.pair.proofs.Laws.{pairs-ring, pairs-domain, norm-some, pair-zero?}
 use Rattle.divisor.specs.Quotients.{Rest}
 use Rattle.divisor.proofs.Division.{rest-sum, rest-less}
-use Rattle.divisor.proofs.Divisors.{pair-zero?}
 
 moved : (n d q r k : ℤ) → q *ℤ d +ℤ r ≡ n → n -ℤ (q +ℤ k) *ℤ d ≡ r -ℤ k *ℤ d
 moved n d q r k f =
@@ -69,6 +65,3 @@ pairs-euclid = record { zero? = pair-zero?; size = λ a. natAbs (norm a); divide
 
 abbrev pub pairs-bezout : Bezout pairs
 pairs-bezout = euclid-bezout pairs-ring pairs-euclid
-
-pub twice-pair-some : (a : Pair) → a ≢ pairs .none → twice pairs a ≢ pairs .none
-twice-pair-some = twice-some pairs-ring pairs-domain (λ e. let f = ap (λ z. z .re) e in omega linear)

@@ -21,11 +21,10 @@ use Rattle.poly.proofs.Domain.{roots-agree}
 use Rattle.pair.specs.declared.Pair.{Pair}
 use Rattle.pair.specs.Pairs.{pairs, negative, times, norm, PartsWithin}
 use Rattle.pair.proofs.Parts.{pair-equal}
-use Rattle.pair.proofs.Laws.{pairs-ring, pairs-domain, negative-twice, norm-times, root-le, norm-size}
+use Rattle.pair.proofs.Laws.{pairs-ring, pairs-domain, negative-twice, norm-times, root-le, norm-size, pair-zero?}
 use Rattle.divisor.specs.declared.PairRoot.{PairRoot}
 use Rattle.divisor.specs.declared.PairRoot.the-variants.{Root, None}
 use Rattle.divisor.specs.Roots.{KeptRoot, IsPairRoot}
-use Rattle.divisor.proofs.Divisors.{pair-zero?}
 
 -- ---- one answer
 pub square-roots : (a b : Pair) → times a a ≡ times b b → (a ≡ b) ⊎ (a ≡ negative b)

@@ -1,7 +1,6 @@
 // Quotients, greatest common divisors and square roots of pairs.
-// Their parts are at most 2^30 in size, as those of everything that is multiplied.
+// What is divided by has parts of at most 2^20 in size, and what is divided, of 2^40, so that the parts of a conj(b) fit.
 use pair::Pair;
-use pair::conjugate;
 use pair::difference;
 use pair::is_zero;
 use pair::norm;
@@ -13,8 +12,8 @@ ghost use Prim.Native.Nat.{_*_, _^_};
 ghost use lib.IntN.{pos};
 ghost use lib.Signed.{_≤ℤ_};
 ghost use Rattle.whole.specs.Number.{Within};
-ghost use Rattle.whole.specs.Poly.{Greatest};
-ghost use Rattle.pair.specs.Pairs.{pairs, times, conjugate, norm, PartsWithin, AllWithin};
+ghost use Rattle.whole.specs.Poly.{Divides, Greatest};
+ghost use Rattle.pair.specs.Pairs.{pairs, times, conjugate, norm, PartsWithin};
 ghost use Rattle.divisor.specs.Quotients.{IsPairQuotient, NearestPair, Rest};
 ghost use Rattle.divisor.specs.Roots.{HalfRoot, Candidate, IsPairRoot};
 
@@ -32,15 +31,22 @@ pub enum PairRoot {
 
 // a conj(b), whose parts over |b|² are those of a / b.
 fn numerator(a: Pair, b: Pair) -> Pair
-    requires { ⌜ PartsWithin (2 ^ 30) a × PartsWithin (2 ^ 30) b ⌝ }
+    requires { ⌜ PartsWithin (2 ^ 40) a × PartsWithin (2 ^ 20) b ⌝ }
     ensures { λ r. ⌜ r ≡ times a (conjugate b) ⌝ }
 {
-    product(a, conjugate(b))
+    let x = a.re;
+    let y = a.im;
+    let u = b.re;
+    let v = b.im;
+    Pair {
+        re: x * u + y * v,
+        im: y * u - x * v,
+    }
 }
 
 // a / b where b divides a.
 pub fn quotient(a: Pair, b: Pair) -> PairQuotient
-    requires { ⌜ PartsWithin (2 ^ 30) a × PartsWithin (2 ^ 30) b × (b ≢ pairs .none) ⌝ }
+    requires { ⌜ PartsWithin (2 ^ 40) a × PartsWithin (2 ^ 20) b × (b ≢ pairs .none) ⌝ }
     ensures { λ r. ⌜ IsPairQuotient a b r ⌝ }
 {
     let n = numerator(a, b);
@@ -56,9 +62,24 @@ pub fn quotient(a: Pair, b: Pair) -> PairQuotient
     PairQuotient::Whole(Pair { re: u, im: v })
 }
 
+// a / b, which is known to be a pair.
+pub fn share(a: Pair, b: Pair) -> Pair
+    requires { ⌜ PartsWithin (2 ^ 20) a × PartsWithin (2 ^ 20) b × (b ≢ pairs .none) × Divides pairs b a ⌝ }
+    ensures { λ q. ⌜ times b q ≡ a ⌝ }
+{
+    let n = numerator(a, b);
+    let d = norm(b);
+    let x = n.re;
+    let y = n.im;
+    Pair {
+        re: whole::share(x, d),
+        im: whole::share(y, d),
+    }
+}
+
 // The pair nearest to a / b, part by part.
 pub fn nearest(a: Pair, b: Pair) -> Pair
-    requires { ⌜ PartsWithin (2 ^ 30) a × PartsWithin (2 ^ 30) b × (b ≢ pairs .none) ⌝ }
+    requires { ⌜ PartsWithin (2 ^ 20) a × PartsWithin (2 ^ 20) b × (b ≢ pairs .none) ⌝ }
     ensures { λ q. ⌜ NearestPair a b q ⌝ }
 {
     let n = numerator(a, b);
@@ -73,7 +94,7 @@ pub fn nearest(a: Pair, b: Pair) -> Pair
 
 // What is left of a over b.
 fn rest(a: Pair, b: Pair) -> Pair
-    requires { ⌜ PartsWithin (2 ^ 30) a × PartsWithin (2 ^ 30) b × (b ≢ pairs .none) ⌝ }
+    requires { ⌜ PartsWithin (2 ^ 20) a × PartsWithin (2 ^ 20) b × (b ≢ pairs .none) ⌝ }
     ensures { λ r. ⌜ Rest a b r ⌝ }
 {
     difference(a, product(nearest(a, b), b))
@@ -81,7 +102,7 @@ fn rest(a: Pair, b: Pair) -> Pair
 
 // The greatest common divisor of two pairs, by Euclid's loop. A zero in a list takes no step.
 pub fn gcd(a: Pair, b: Pair) -> Pair
-    requires { ⌜ PartsWithin (2 ^ 30) a × PartsWithin (2 ^ 30) b ⌝ }
+    requires { ⌜ PartsWithin (2 ^ 20) a × PartsWithin (2 ^ 20) b ⌝ }
     ensures { λ g. ⌜ Greatest pairs (a ∷ b ∷ []) g ⌝ }
 {
     if is_zero(a) {
@@ -95,21 +116,6 @@ pub fn gcd(a: Pair, b: Pair) -> Pair
         y = r;
     }
     x
-}
-
-// The greatest common divisor of a pair and five more.
-pub fn gcd_all(ps: [Pair; 5], first: Pair) -> Pair
-    requires { ⌜ AllWithin (2 ^ 30) ps × PartsWithin (2 ^ 30) first ⌝ }
-    ensures { λ g. ⌜ Greatest pairs (first ∷ ps) g ⌝ }
-{
-    let mut g = first;
-    let mut i: usize = 0;
-    while i < 5 {
-        let p = ps[i];
-        g = gcd(p, g);
-        i += 1;
-    }
-    g
 }
 
 // The root of the half of s, and 0 where that is no square.

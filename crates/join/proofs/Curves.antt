@@ -17,9 +17,8 @@ use Rattle.whole.proofs.Ring.{plus-cancel, zero-difference}
 use Rattle.poly.proofs.Domain.{times-cancel}
 use Rattle.pair.specs.declared.Pair.{Pair}
 use Rattle.pair.specs.Pairs.{pairs, plus, minus, negative, times, multiple}
-use Rattle.pair.proofs.Laws.{pairs-ring, pairs-domain, multiple-cancel}
+use Rattle.pair.proofs.Laws.{pairs-ring, pairs-domain, multiple-cancel, pair-zero?}
 use Rattle.pair.proofs.PairSolver.{the, _⊞_, _⊟_, _⊠_, _··_, opposite, nought, solve-pairs}
-use Rattle.divisor.proofs.Divisors.{pair-zero?}
 use Rattle.divisor.proofs.Roots.{first-some, first-found, kept-roots}
 use Rattle.curve.proofs.SquaredLegs.{t0, t1, t2, t3, t4, quintic-legs}
 use Rattle.join.specs.Listing.{Triple, travelled, Join, Member, AllJoins}

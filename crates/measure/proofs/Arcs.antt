@@ -25,14 +25,13 @@ use Rattle.pair.specs.Pairs.{pairs, norm}
 use Rattle.pair.proofs.Laws.{norm-nonneg}
 use Rattle.root.specs.declared.Quartic.{Quartic}
 use Rattle.root.specs.Roots.{quartic}
-use Rattle.root.specs.Pairs.{quadratic}
 use Rattle.curve.specs.declared.Curve.{Curve}
 use Rattle.curve.specs.declared.Curve.the-variants.{Cubic, Quintic}
 use Rattle.curve.specs.Curves.{pointsOf, legPolynomial}
 use Rattle.curve.proofs.LegPolynomial.{pointsOf-length, legPolynomial-above, legPolynomial-fourth}
 use Rattle.curve.proofs.Lengths.{pairForm, squaredLength-form}
 use Rattle.verdict.specs.declared.Preimage.{Preimage}
-use Rattle.verdict.specs.Verdicts.{PreimageOf}
+use Rattle.verdict.specs.Verdicts.{PreimageOf, quadratic}
 use Rattle.verdict.proofs.Multiples.{squared-above, squared-form}
 use Rattle.verdict.proofs.Once.{preimage-norms}
 use Rattle.measure.specs.Lengths.{lengthA, lengthB}

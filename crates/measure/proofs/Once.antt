@@ -5,7 +5,7 @@ use mathlib.Core.Path.{_≡_, sym, ap, _∙_, subst}
 use Rattle.refusal.proofs.Answers.{refuse-once, first-or-once}
 use Rattle.whole.specs.Number.{Tells}
 use Rattle.whole.proofs.Flags.{told-once}
-use Rattle.root.specs.declared.pairs.Quadratic.{Quadratic}
+use Rattle.verdict.specs.declared.Quadratic.{Quadratic}
 use Rattle.curve.specs.declared.Curve.{Curve}
 use Rattle.curve.specs.Curves.{pointsOf, legPolynomial}
 use Rattle.verdict.specs.Promise.{preimage-causes}

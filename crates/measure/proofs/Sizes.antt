@@ -7,8 +7,8 @@ use Rattle.whole.proofs.Wholes.{readℤ, read-pos}
 use Rattle.whole.proofs.Bound.{done, _▸_, bounds, within}
 use Rattle.pair.specs.declared.Pair.{Pair}
 use Rattle.pair.specs.Pairs.{PartsWithin, AllWithin}
-use Rattle.root.specs.declared.pairs.Quadratic.{Quadratic}
-use Rattle.root.specs.Pairs.{quadratic}
+use Rattle.verdict.specs.declared.Quadratic.{Quadratic}
+use Rattle.verdict.specs.Verdicts.{quadratic}
 use Rattle.measure.specs.Turns.{cross, turningOf}
 use Rattle.measure.specs.Steps.{Moderate}
 

@@ -15,7 +15,7 @@ use lib.Signed.{_<ℤ_}
 use lib.ListN.{length}
 use Rattle.whole.specs.Number.{Tells}
 use Rattle.pair.specs.declared.Pair.{Pair}
-use Rattle.root.specs.declared.pairs.Quadratic.{Quadratic}
+use Rattle.verdict.specs.declared.Quadratic.{Quadratic}
 use Rattle.measure.specs.declared.Turning.{Turning}
 use Rattle.measure.specs.declared.counting.Inflections.{Inflections}
 

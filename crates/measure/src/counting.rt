@@ -1,11 +1,11 @@
 // The turning polynomial of a pre-image, and how often it changes its sign between 0 and 1.
 use crate::Turning;
 use pair::Pair;
-use root::pairs::Quadratic;
+use verdict::Quadratic;
 ghost use mathlib.Core.Path.{_≡_};
 ghost use Rattle.whole.specs.Number.{Tells};
 ghost use Rattle.pair.specs.Pairs.{PartsWithin, AllWithin};
-ghost use Rattle.root.specs.Pairs.{quadratic};
+ghost use Rattle.verdict.specs.Verdicts.{quadratic};
 ghost use Rattle.measure.specs.Turns.{cross, turningOf, Straight, CountIs, Inflects};
 ghost use Rattle.measure.specs.Steps.{Moderate};
 

@@ -7,8 +7,11 @@ use crate::polynomials::weighted;
 use crate::polynomials::weights;
 use curve::Curve;
 use curve::drawn;
+use curve::legs_of;
 use pair::Pair;
 use root::Quartic;
+use verdict::imaginaries;
+use verdict::reals;
 use whole::share;
 ghost use mathlib.Core.Path.{_≡_};
 ghost use Prim.Native.Nat.{_-_};
@@ -73,9 +76,9 @@ pub(crate) fn rows(curve: Curve, h: i64, w: Quartic) -> Rows
 {
     let p = start(curve);
     let n = legs(curve);
-    let d = drawn(curve);
-    let re = d.re;
-    let im = d.im;
+    let d = drawn(legs_of(curve));
+    let re = reals(d);
+    let im = imaginaries(d);
     let x = path(p.re, re, n);
     let y = path(p.im, im, n);
     let g = 0 - h;

@@ -11,6 +11,7 @@
 --   root-le, root-equal      k² ≤ n² and k² = n² give k ≤ n and k = n
 --   norm-nonneg, norm-zero, norm-some      a norm is not negative, only 0 has norm 0, and any other pair a positive one
 --   pairs-domain             no zero divisors
+--   pair-zero?               whether a pair is 0
 use mathlib.Core.Path.{_≡_, refl, sym, ap, ap₂, _∙_}
 use mathlib.Core.List.{[], _∷_}
 use mathlib.Core.Logic.{_≢_, ⊎-map}
@@ -18,7 +19,7 @@ use Prim.Native.Nat.{ℕ, zero, suc, _+_, _*_, _≤_, _<_}
 use native.Mathlib.Nat.{le-of-eq, mul-le-mul}
 use native.Mathlib.Decide.{decLe}
 use native.Mathlib.Omega.{arith}
-use lib.IntN.{ℤ, pos, negsuc, negℤ, natAbs, _+ℤ_, _-ℤ_, _*ℤ_, +ℤ-assoc, +ℤ-comm, +ℤ-idl, +ℤ-idr, +ℤ-invl, +ℤ-invr, *ℤ-comm, *ℤ-zero, zero-*ℤ, negℤ-negℤ}
+use lib.IntN.{ℤ, pos, negsuc, negℤ, natAbs, _+ℤ_, _-ℤ_, _*ℤ_, +ℤ-assoc, +ℤ-comm, +ℤ-idl, +ℤ-idr, +ℤ-invl, +ℤ-invr, *ℤ-comm, *ℤ-zero, zero-*ℤ, negℤ-negℤ, ℤ-discrete}
 use lib.Signed.{_≤ℤ_, _<ℤ_}
 use Rattle.whole.proofs.Integers.{*ℤ-1, *ℤ-assoc, abs-zero, *ℤ-domain}
 use Rattle.whole.proofs.Ring.{Ring}
@@ -148,3 +149,11 @@ norm-some a h = by (natAbs (a .re) * natAbs (a .re) + natAbs (a .im) * natAbs (a
 
 pub pairs-domain : Domain pairs
 pairs-domain = record { splits = λ a b e. ⊎-map (norm-zero a) (norm-zero b) (*ℤ-domain (norm a) (norm b) (sym (norm-times a b) ∙ ap norm e)) }
+
+pub pair-zero? : (a : Pair) → Dec (a ≡ pairs .none)
+pair-zero? a = by (ℤ-discrete (a .re) (pos 0)) (ℤ-discrete (a .im) (pos 0))
+  where
+    by : Dec (a .re ≡ pos 0) → Dec (a .im ≡ pos 0) → Dec (a ≡ pairs .none)
+    by (yes e) (yes f) = yes (pair-equal e f)
+    by (yes e) (no f) = no (λ h. f (ap (λ z. z .im) h))
+    by (no e) f = no (λ h. e (ap (λ z. z .re) h))

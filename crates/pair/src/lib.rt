@@ -7,7 +7,7 @@ ghost use lib.IntN.{pos, natAbs};
 ghost use lib.Signed.{_≤ℤ_};
 ghost use Rattle.whole.specs.Number.{Tells, Within};
 ghost use Rattle.pair.specs.Pairs.{pairs, PartsWithin};
-ghost use Rattle.pair.specs.Pairs.{plus, minus, negative, times, multiple, conjugate, norm, imaginary};
+ghost use Rattle.pair.specs.Pairs.{plus, minus, negative, times, multiple, norm, imaginary};
 
 pub struct Pair {
     pub re: i64,
@@ -87,15 +87,6 @@ pub fn multiple(k: i64, a: Pair) -> Pair
     }
 }
 
-pub fn conjugate(a: Pair) -> Pair
-    requires { ⌜ PartsWithin (2 ^ 61) a ⌝ }
-    ensures { λ r. ⌜ r ≡ conjugate a ⌝ }
-{
-    let x = a.re;
-    let y = a.im;
-    Pair { re: x, im: -y }
-}
-
 pub fn norm(a: Pair) -> i64
     requires { ⌜ PartsWithin (2 ^ 30) a ⌝ }
     ensures { λ r. ⌜ r ≡ norm a ⌝ }
@@ -115,6 +106,19 @@ pub fn is_zero(p: Pair) -> bool
         return false;
     }
     if y != 0 {
+        return false;
+    }
+    true
+}
+
+// Whether a and b are equal.
+pub fn equal(a: Pair, b: Pair) -> bool
+    ensures { λ r. ⌜ Tells (a ≡ b) r ⌝ }
+{
+    if a.re != b.re {
+        return false;
+    }
+    if a.im != b.im {
         return false;
     }
     true

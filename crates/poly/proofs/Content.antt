@@ -8,7 +8,6 @@
 --   primitive-greatest   the greatest common divisor of c f is c, where f is primitive and c not 0
 --   greatest-same, primitive-same        both say something of a polynomial, however it is written
 --   primitive-scaled     a unit times a primitive polynomial is primitive
---   primitive-factor     a factor of a primitive polynomial is primitive
 --   primitive-multiple   a primitive polynomial times a number other than 0 is not 0
 --   Associates, associates               a f = b g with f and g primitive and a not 0 gives f = u g and b = a u with a unit u
 use mathlib.Core.Path.{_≡_, refl, sym, ap, _∙_}
@@ -67,9 +66,6 @@ module _ {A : Type 0} {C : Coefficients A} (R : Ring C) where
   divides-product d p q h =
       let (f, e) = quotients d p h in
       divides-scaled d (product C f q) (product C p q) (λ k. sym (scaled-product R d f q k) ∙ product-same R (scaled C d f) p q q e (λ j. refl) k)
-
-  pub primitive-factor : (p q : List A) → Primitive C (product C p q) → Primitive C p
-  primitive-factor p q h d u = h d (divides-product d p q u)
 
   pub greatest-some : {p : List A} {c : A} → Greatest C p c → (Same C p [] → ⊥) → c ≢ 𝟎
   greatest-some g n z = n (λ k. sym (g .divides k .is) ∙ ap (λ t. t ⊗ g .divides k .factor) z ∙ none-times R _)

@@ -22,13 +22,12 @@ use Rattle.pair.specs.Pairs.{pair, pairs}
 use Rattle.pair.proofs.Laws.{pairs-ring}
 use Rattle.divisor.proofs.Units.{unit-norm}
 use Rattle.root.specs.Roots.{quartic}
-use Rattle.root.specs.Pairs.{quadratic}
 use Rattle.curve.specs.declared.Curve.{Curve}
 use Rattle.curve.specs.declared.Curve.the-variants as curves
 use Rattle.verdict.specs.declared.Preimage.{Preimage}
 use Rattle.verdict.specs.declared.Verdict.the-variants as verdicts
 use Rattle.curve.specs.Curves.{pointsOf, InRange, differences, powers, powerForm, legPolynomial, squaredLength}
-use Rattle.verdict.specs.Verdicts.{SquareOf}
+use Rattle.verdict.specs.Verdicts.{SquareOf, quadratic}
 use Rattle.curve.specs.Promise.{out-of-range}
 use Rattle.verdict.specs.Promise.{Recognised}
 use Rattle.sheet.specs.declared.Reading.the-variants as reading

@@ -17,15 +17,14 @@ use Rattle.poly.proofs.Series.{conv}
 use Rattle.pair.specs.declared.Pair.{Pair}
 use Rattle.pair.specs.Pairs.{pairs}
 use Rattle.root.specs.declared.Quartic.{Quartic}
-use Rattle.root.specs.declared.pairs.Quadratic.{Quadratic}
+use Rattle.verdict.specs.declared.Quadratic.{Quadratic}
 use Rattle.root.specs.Roots.{quartic, Small}
-use Rattle.root.specs.Pairs.{quadratic}
 use Rattle.root.specs.Search.{Each}
 use Rattle.curve.specs.declared.Curve.{Curve}
 use Rattle.curve.specs.declared.Curve.the-variants.{Cubic, Quintic}
 use Rattle.verdict.specs.declared.Preimage.{Preimage}
 use Rattle.curve.specs.Curves.{pointsOf, InRange, legPolynomial, squaredLength}
-use Rattle.verdict.specs.Verdicts.{PreimageOf}
+use Rattle.verdict.specs.Verdicts.{PreimageOf, quadratic}
 use Rattle.curve.proofs.LegPolynomial.{pointsOf-length, legPolynomial-above}
 use Rattle.curve.proofs.Lengths.{re-of, im-of, at-squaredLength}
 use Rattle.verdict.proofs.Multiples.{squared-above}

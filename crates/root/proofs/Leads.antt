@@ -2,11 +2,9 @@
 --   lead-same      the rule holds of a polynomial, however it is written
 --   lead-top       the highest power that it speaks of
 --   lead-once      p = q or p = −q, both with a positive lead: p = q
---   positive-lead-once, kept-lead-once      so it is for whole numbers, and for pairs
---   kept-none      0 has no positive part
+--   positive-lead-once      so it is for whole numbers
 use mathlib.Core.Path.{_≡_, sym, _∙_, subst}
 use mathlib.Core.List.{List}
-use mathlib.Core.Logic.{inl, inr}
 use lib.IntN.{ℤ}
 use Rattle.whole.specs.Poly.{Coefficients, at, Same}
 use Rattle.whole.proofs.Ring.{Ring}
@@ -16,13 +14,8 @@ use Rattle.whole.specs.Number.{wholes}
 use Rattle.poly.specs.Terms.{Top}
 use Rattle.poly.proofs.Domain.{UpToSign}
 use Rattle.poly.proofs.Top.{up-to-sign-same}
-use Rattle.pair.specs.declared.Pair.{Pair}
-use Rattle.pair.specs.Pairs.{pairs}
-use Rattle.pair.proofs.Laws.{pairs-ring}
-use Rattle.divisor.proofs.Roots.{not-both}
 use Rattle.root.specs.Search.{Lead}
 use Rattle.root.specs.Roots.{LeadPositive}
-use Rattle.root.specs.Pairs.{Kept, LeadKept}
 
 module _ {A : Type 0} {C : Coefficients A} {Positive : A → Type 0} where
   pub lead-same : {p q : List A} → Same C p q → Lead C Positive p → Lead C Positive q
@@ -38,10 +31,3 @@ module _ {A : Type 0} {C : Coefficients A} {Positive : A → Type 0} where
 
 pub positive-lead-once : (p q : List ℤ) → LeadPositive p → LeadPositive q → UpToSign wholes-ring p q → Same wholes p q
 positive-lead-once = lead-once (λ z. z .lt) wholes-ring (λ a b h k e. omega (linear, negative-parts b))
-
-pub kept-none : Kept (pairs .none) → ⊥
-kept-none (inl h) = h .lt
-kept-none (inr (e, h)) = h .lt
-
-pub kept-lead-once : (w v : List Pair) → LeadKept w → LeadKept v → UpToSign pairs-ring w v → Same pairs w v
-kept-lead-once = lead-once kept-none pairs-ring not-both

@@ -3,6 +3,5 @@ pub mod Squared
 pub mod Leads
 pub mod Candidates
 pub mod Downward
-pub mod Quadratics
 pub mod Shifting
 pub mod Once

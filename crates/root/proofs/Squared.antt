@@ -2,17 +2,13 @@
 --   squareOf            the nine numbers of the square of a quartic
 --   square-is           they are the square's
 --   square-only         and no others are
---   quadratic-square    the five coefficients of the square of a quadratic, over any ring
 use mathlib.Core.Path.{_≡_, refl, sym, _∙_}
 use mathlib.Core.List.{[], _∷_}
 use Prim.Native.Nat.{zero, suc}
 use lib.IntN.{pos, _+ℤ_, _*ℤ_}
-use Rattle.whole.specs.Poly.{Coefficients, Same, sum, scaled, product, square}
+use Rattle.whole.specs.Poly.{Same, sum, scaled, product}
 use Rattle.whole.specs.Number.{wholes}
-use Rattle.whole.proofs.Ring.{Ring}
-use Rattle.whole.proofs.Solver.{atoms, read, read-none, ring}
 use Rattle.whole.proofs.Wholes.{readℤ, read-pos, atomsℤ, ringℤ}
-use Rattle.poly.specs.Terms.{twice}
 use Rattle.root.specs.declared.Nine.{Nine}
 use Rattle.root.specs.declared.Quartic.{Quartic}
 use Rattle.root.specs.Roots.{nine, IsSquare}
@@ -54,18 +50,3 @@ nine-same a b h i = record { m0 = h 0 i; m1 = h 1 i; m2 = h 2 i; m3 = h 3 i; m4 
 
 pub square-only : (q : Quartic) (m : Nine) → IsSquare q m → m ≡ squareOf q
 square-only q m h = nine-same m (squareOf q) (λ k. sym (h k) ∙ square-is q k)
-
-module _ {A : Type 0} {C : Coefficients A} (R : Ring C) where
-  open Coefficients C using (plus as _⊕_, times as _⊗_)
-
-  infixl 60 _⊕_
-  infixl 70 _⊗_
-  pub quadratic-square : (a b c : A) → Same C (square C (a ∷ b ∷ c ∷ []))
-      ((a ⊗ a) ∷ (twice C a ⊗ b) ∷ (twice C a ⊗ c ⊕ b ⊗ b) ∷ (twice C b ⊗ c) ∷ (c ⊗ c) ∷ [])
-  unfolding sum scaled product
-  quadratic-square a b c zero = atoms R (a ∷ b ∷ c ∷ []) (λ ρ e. simp (e 0, read, read-none R ρ) (ring R ρ _ _ tt))
-  quadratic-square a b c (suc zero) = atoms R (a ∷ b ∷ c ∷ []) (λ ρ e. simp (e 0, e 1, read, read-none R ρ) (ring R ρ _ _ tt))
-  quadratic-square a b c (suc (suc zero)) = atoms R (a ∷ b ∷ c ∷ []) (λ ρ e. simp (e 0, e 1, e 2, read, read-none R ρ) (ring R ρ _ _ tt))
-  quadratic-square a b c (suc (suc (suc zero))) = atoms R (a ∷ b ∷ c ∷ []) (λ ρ e. simp (e 1, e 2, read) (ring R ρ _ _ tt))
-  quadratic-square a b c (suc (suc (suc (suc zero)))) = atoms R (a ∷ b ∷ c ∷ []) (λ ρ e. simp (e 2, read) (ring R ρ _ _ tt))
-  quadratic-square a b c (suc (suc (suc (suc (suc k))))) = refl

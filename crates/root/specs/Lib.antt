@@ -1,4 +1,3 @@
--- The definitions of a search for a root, over any ring, over whole numbers and over pairs.
+-- The definitions of a search for a root, over any ring and over whole numbers.
 pub mod Search
 pub mod Roots
-pub mod Pairs

@@ -1,20 +1,26 @@
 -- What a search for the root of a polynomial promises, for coefficients of any kind. What counts as positive and as small is the kind's.
 --   Each P p           P holds of every coefficient
+--   SameBelow n, SameFrom n    the same coefficients below the power n; from it up
 --   Lead               the highest coefficient that is not zero is positive
 --   SmallRoot          a root with a positive lead and small coefficients
 --   NoSmallRoot        there is no root with small coefficients, of any length
 -- and its steps, for a root with s at the power L:
---   SmallQuotient      the quotient n / t, where that is small; otherwise something small
---   Candidate          the only polynomial that can be the root
+--   UpperRoot          a polynomial with small coefficients whose square is M from the power L up
 use mathlib.Core.Path.{_≡_}
 use mathlib.Core.List.{List}
-use Prim.Native.Nat.{ℕ}
+use Prim.Native.Nat.{ℕ, _≤_, _<_}
 use Rattle.whole.specs.Poly.{Coefficients, at, Same, square}
-use Rattle.poly.specs.Terms.{Above, RootAt}
+use Rattle.poly.specs.Terms.{Above}
 
 module _ {A : Type 0} (C : Coefficients A) where
   abbrev pub Each : (A → Type 0) → List A → Type 0
   Each P p = (k : ℕ) → P (at C p k)
+
+  abbrev pub SameBelow : ℕ → List A → List A → Type 0
+  SameBelow n p q = (k : ℕ) → k < n → at C p k ≡ at C q k
+
+  abbrev pub SameFrom : ℕ → List A → List A → Type 0
+  SameFrom n p q = (k : ℕ) → n ≤ k → at C p k ≡ at C q k
 
   pub record Lead (Positive : A → Type 0) (q : List A) : Type 0 where
     pub power : ℕ
@@ -29,11 +35,8 @@ module _ {A : Type 0} (C : Coefficients A) where
   abbrev pub NoSmallRoot : (A → Type 0) → List A → Type 0
   NoSmallRoot Small M = (q : List A) → Each Small q → Same C (square C q) M → ⊥
 
-  pub record SmallQuotient (Small : A → Type 0) (n t r : A) : Type 0 where
-    pub small : Small r
-    pub exact : (x : A) → Small x → C .times t x ≡ n → x ≡ r
-
-  pub record Candidate (Small : A → Type 0) (M : List A) (L : ℕ) (s : A) (q : List A) : Type 0 where
+  pub record UpperRoot (Small : A → Type 0) (M : List A) (L : ℕ) (s : A) (q : List A) : Type 0 where
     pub small : Each Small q
+    pub above : Above C (at C q) L
     pub lead : at C q L ≡ s
-    pub only : (x : List A) → Each Small x → RootAt C M L s x → Same C x q
+    pub squared : SameFrom L (square C q) M

@@ -1,21 +1,21 @@
-// The square root of a polynomial, over whole numbers and over pairs, from the highest power down: the coefficients are computed as if there
-// were a root, and one comparison decides.
+// The square root of a polynomial over whole numbers, from the highest power down. Each coefficient is an exact quotient, so that the square
+// agrees from the fourth power up, and a comparison of the powers below decides.
+use whole::Exact;
 use whole::Root;
+use whole::quotient;
+use whole::size;
 use whole::square_root;
-
-pub mod pairs;
-
 ghost use mathlib.Core.Path.{_≡_};
 ghost use mathlib.Core.List.{_∷_};
 ghost use mathlib.Core.Logic.{_≢_};
 ghost use Prim.Native.Nat.{_+_, _≤_};
-ghost use lib.IntN.{pos};
+ghost use lib.IntN.{pos, _*ℤ_};
 ghost use Rattle.whole.specs.Number.{wholes, Tells};
 ghost use Rattle.whole.specs.Poly.{at, Same};
 ghost use Rattle.whole.specs.Quotients.{Divisible};
 ghost use Rattle.poly.specs.Terms.{Above, Top};
-ghost use Rattle.root.specs.Search.{Each, SmallQuotient, Candidate};
-ghost use Rattle.root.specs.Roots.{nine, quartic, Sized, Small, IsSquare, IsWholeRoot};
+ghost use Rattle.root.specs.Search.{Each, SameBelow};
+ghost use Rattle.root.specs.Roots.{nine, quartic, Sized, Small, IsSquare, IsCoefficient, IsSearch, IsWholeRoot};
 
 // m0 + m1 t + .. + m8 t^8
 pub struct Nine {
@@ -44,6 +44,19 @@ pub enum WholeRoot {
     NoRoot,
 }
 
+// A coefficient of a root: a whole number of at most 20,000,000 in size, or why it is none.
+pub enum Coefficient {
+    Whole(i64),
+    Fraction,
+    TooLarge,
+}
+
+// The only polynomial that can be a root, or that a coefficient ended the search.
+enum Search {
+    Candidate(Quartic),
+    Ended,
+}
+
 // The square of q.
 pub fn square(q: Quartic) -> Nine
     requires { ⌜ Each wholes Small (quartic q) ⌝ }
@@ -70,76 +83,69 @@ pub fn square(q: Quartic) -> Nine
     }
 }
 
-// Whether a and b are the same polynomial.
-fn same(a: Nine, b: Nine) -> bool
-    ensures { λ r. ⌜ Tells (Same wholes (nine a) (nine b)) r ⌝ }
+// Whether a and b agree below the fourth power.
+fn same_below(a: Nine, b: Nine) -> bool
+    ensures { λ r. ⌜ Tells (SameBelow wholes 4 (nine a) (nine b)) r ⌝ }
 {
-    if a.m0 != b.m0 {
-        return false;
-    }
-    if a.m1 != b.m1 {
+    if a.m3 != b.m3 {
         return false;
     }
     if a.m2 != b.m2 {
         return false;
     }
-    if a.m3 != b.m3 {
+    if a.m1 != b.m1 {
         return false;
     }
-    if a.m4 != b.m4 {
-        return false;
-    }
-    if a.m5 != b.m5 {
-        return false;
-    }
-    if a.m6 != b.m6 {
-        return false;
-    }
-    if a.m7 != b.m7 {
-        return false;
-    }
-    if a.m8 != b.m8 {
+    if a.m0 != b.m0 {
         return false;
     }
     true
 }
 
-// n / t, where that is a whole number of at most 20,000,000 in size; otherwise some number of that size.
-fn small_quotient(n: i64, t: i64) -> i64
+// The coefficient x with t x = n. A large fraction is a fraction.
+fn coefficient_of(n: i64, t: i64) -> Coefficient
     requires { ⌜ Divisible n t ⌝ }
-    ensures { λ r. ⌜ SmallQuotient wholes Small n t r ⌝ }
+    ensures { λ r. ⌜ IsCoefficient n t r ⌝ }
 {
-    let x = n / t;
-    if 20000000 < x {
-        return 0;
+    let Exact::Whole(x) = quotient(n, t) else {
+        return Coefficient::Fraction;
+    };
+    if 20000000 < size(x) {
+        Coefficient::TooLarge
+    } else {
+        Coefficient::Whole(x)
     }
-    if x < -20000000 {
-        return 0;
-    }
-    x
 }
 
-// The only polynomial that can be a root of m with s at the fourth power: each coefficient is decided by those above it.
-fn candidate(m: Nine, s: i64) -> Quartic
-    requires { ⌜ Each wholes Sized (nine m) × Small s × (s ≢ pos 0) ⌝ }
-    ensures { λ q. ⌜ Candidate wholes Small (nine m) 4 s (quartic q) ⌝ }
+// The polynomial with s at the fourth power whose square is m from there up: each coefficient is decided by those above it.
+fn candidate_of(m: Nine, s: i64) -> Search
+    requires { ⌜ Each wholes Sized (nine m) × Small s × (s ≢ pos 0) × (s *ℤ s ≡ m .m8) ⌝ }
+    ensures { λ r. ⌜ IsSearch (nine m) s r ⌝ }
 {
     let m4 = m.m4;
     let m5 = m.m5;
     let m6 = m.m6;
     let m7 = m.m7;
     let t = s + s;
-    let q3 = small_quotient(m7, t);
-    let q2 = small_quotient(m6 - q3 * q3, t);
-    let q1 = small_quotient(m5 - 2 * (q2 * q3), t);
-    let q0 = small_quotient(m4 - (2 * (q1 * q3) + q2 * q2), t);
-    Quartic {
+    let Coefficient::Whole(q3) = coefficient_of(m7, t) else {
+        return Search::Ended;
+    };
+    let Coefficient::Whole(q2) = coefficient_of(m6 - q3 * q3, t) else {
+        return Search::Ended;
+    };
+    let Coefficient::Whole(q1) = coefficient_of(m5 - 2 * (q2 * q3), t) else {
+        return Search::Ended;
+    };
+    let Coefficient::Whole(q0) = coefficient_of(m4 - (2 * (q1 * q3) + q2 * q2), t) else {
+        return Search::Ended;
+    };
+    Search::Candidate(Quartic {
         q0,
         q1,
         q2,
         q3,
         q4: s,
-    }
+    })
 }
 
 // The root of a polynomial with a coefficient at the eighth power.
@@ -154,8 +160,10 @@ fn quartic_root(m: Nine) -> WholeRoot
     let Root::Square(s) = square_root(m8 as u64) else {
         return WholeRoot::NoRoot;
     };
-    let q = candidate(m, s as i64);
-    if same(square(q), m) {
+    let Search::Candidate(q) = candidate_of(m, s as i64) else {
+        return WholeRoot::NoRoot;
+    };
+    if same_below(square(q), m) {
         WholeRoot::Root(q)
     } else {
         WholeRoot::NoRoot

@@ -13,11 +13,10 @@ use Rattle.pair.specs.declared.Pair.{Pair}
 use Rattle.pair.specs.Pairs.{AllWithin}
 use Rattle.root.specs.Search.{Each}
 use Rattle.root.specs.Roots.{quartic, Small}
-use Rattle.root.specs.Pairs.{quadratic}
 use Rattle.curve.specs.Curves.{InRange, legPolynomial}
 use Rattle.verdict.specs.declared.Preimage.{Preimage}
 use Rattle.verdict.specs.declared.PreimageAnswer.the-variants.{Found}
-use Rattle.verdict.specs.Verdicts.{PreimageOf}
+use Rattle.verdict.specs.Verdicts.{PreimageOf, quadratic}
 use Rattle.verdict.specs.Promise.{preimage-causes, Preimaged}
 use Rattle.verdict.proofs.RootSizes.{root-within, preimage-within}
 

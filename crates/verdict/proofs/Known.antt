@@ -1,49 +1,70 @@
 -- What is known of D on the way to its verdict, where D is that of a curve in range.
+--   three-none, five-none     legs that are all 0
+--   scaled-three        a multiple of three coefficients
+--   generates-same      D = κ w² with a coprime w, however w is written
 --   holds-same          a verdict holds of a polynomial, however it is written
+--   of-legs             the power form of a curve's legs is its D
 --   pairs-slight, length-sized                   D and N are within their bounds
 --   roots-small, generators-small                so is every q with N = c q², and every w with D = κ w²
---   parts-slight                                 and the parts of what has pairs within D's bound
--- Where D = g f, with g its greatest common divisor:
---   factors-known                                that D is that of a curve, however it is written
---   factors-move, factor-some, factor-small      D and g are not 0, and g is within D's bound
---   factor-top                                   f has the highest power of D
---   factor-multiple, factor-sized                N = |g|² |f|², so |f|² is within N's bound
-use mathlib.Core.Path.{refl, sym, _∙_, subst}
-use mathlib.Core.List.{List}
-use mathlib.Core.Logic.{_≢_}
-use Prim.Native.Nat.{ℕ, _≤_}
-use native.Mathlib.Nat.{le-refl, mul-le-mul}
+--   factor-small                                 and κ, where w is coprime
+--   legs-small                                   a leg is at most 40,000 in size, by parts
+use mathlib.Core.Path.{_≡_, refl, sym, ap, _∙_, subst}
+use mathlib.Core.List.{List, [], _∷_}
+use Prim.Native.Nat.{ℕ, zero, suc}
 use native.Mathlib.Omega.{arith}
-use lib.IntN.{ℤ, pos, natAbs, _*ℤ_}
-use lib.ListN.{List·getD-map}
+use lib.IntN.{ℤ, pos}
 use lib.Signed.{_<ℤ_}
-use Rattle.whole.specs.Poly.{at, Same, scaled}
-use Rattle.whole.specs.Number.{wholes, Within}
-use Rattle.whole.proofs.Integers.{abs-times}
-use Rattle.whole.proofs.Wholes.{wholes-ring}
-use Rattle.poly.specs.Terms.{Top}
-use Rattle.poly.proofs.Lists.{at-scaled}
-use Rattle.poly.proofs.Top.{top-same, top-some, top-quotient}
-use Rattle.poly.proofs.Content.{greatest-same}
+use Rattle.whole.specs.Poly.{at, Same, Divides, scaled, square}
+use Rattle.whole.specs.Number.{wholes}
+use Rattle.poly.proofs.Lists.{scaled-same, square-same as squares-same}
+use Rattle.poly.proofs.Content.{greatest-same, primitive-greatest}
+use Rattle.poly.proofs.Gauss.{primitive-product}
 use Rattle.pair.specs.declared.Pair.{Pair}
-use Rattle.pair.specs.Pairs.{pairs, norm, PartsWithin, AllWithin}
-use Rattle.pair.proofs.Laws.{pairs-ring, pairs-domain, norm-some}
-use Rattle.divisor.proofs.Divisors.{greatest-zero, greatest-within}
-use Rattle.root.specs.Roots.{quartic, Sized, Small}
+use Rattle.pair.specs.Pairs.{pairs, times, PartsWithin, AllWithin}
+use Rattle.pair.proofs.Laws.{pairs-ring, pairs-domain}
+use Rattle.divisor.proofs.Divisors.{greatest-within}
+use Rattle.divisor.proofs.Euclid.{pairs-bezout}
+use Rattle.root.specs.Roots.{Sized, Small}
 use Rattle.root.specs.Search.{Each}
-use Rattle.root.specs.Pairs.{five}
-use Rattle.curve.specs.declared.Legs.{Legs}
-use Rattle.curve.specs.Curves.{legPolynomial, squaredLength}
-use Rattle.curve.specs.Steps.{polynomial}
-use Rattle.curve.proofs.Lengths.{squaredLength-same, squaredLength-scaled}
+use Rattle.curve.specs.Curves.{differences, powerForm, legPolynomial, squaredLength}
+use Rattle.curve.proofs.LegPolynomial.{legs-within}
+use Rattle.curve.proofs.Lengths.{squaredLength-same}
 use Rattle.curve.proofs.Sizes.{legPolynomial-within, squaredLength-within}
-use Rattle.verdict.specs.declared.divisors.Factors.{Factors}
 use Rattle.verdict.specs.declared.Square.{Square}
 use Rattle.verdict.specs.declared.Verdict.{Verdict}
 use Rattle.verdict.specs.declared.Verdict.the-variants as verdict
-use Rattle.verdict.specs.Verdicts.{Squared, Generated, Still, SquareOf, Holds}
-use Rattle.verdict.specs.Steps.{Slight, OfCurve, FactorsOf, Known, unfactored}
-use Rattle.verdict.proofs.RootSizes.{positive-size, root-within, preimage-within}
+use Rattle.verdict.specs.Verdicts.{Squared, Generated, Still, Coprime, SquareOf, Holds}
+use Rattle.verdict.specs.Steps.{OfCurve, OfLegs}
+use Rattle.verdict.proofs.Multiples.{generated-some}
+use Rattle.verdict.proofs.Coprime.{coprime-primitive}
+use Rattle.verdict.proofs.RootSizes.{root-within, preimage-within}
+
+pub three-none : {a b c : Pair} → a ≡ pairs .none → b ≡ pairs .none → c ≡ pairs .none → Same pairs (a ∷ b ∷ c ∷ []) []
+three-none x y z zero = x
+three-none x y z (suc zero) = y
+three-none x y z (suc (suc zero)) = z
+three-none x y z (suc (suc (suc k))) = refl
+
+pub five-none : {a b c d e : Pair} → Same pairs (a ∷ b ∷ c ∷ []) [] → d ≡ pairs .none → e ≡ pairs .none → Same pairs (a ∷ b ∷ c ∷ d ∷ e ∷ []) []
+five-none h y z zero = h 0
+five-none h y z (suc zero) = h 1
+five-none h y z (suc (suc zero)) = h 2
+five-none h y z (suc (suc (suc zero))) = y
+five-none h y z (suc (suc (suc (suc zero)))) = z
+five-none h y z (suc (suc (suc (suc (suc k))))) = refl
+
+pub scaled-three : (e b0 b1 b2 : Pair) {d v1 v2 : Pair} → times e b0 ≡ d → times e b1 ≡ v1 → times e b2 ≡ v2 → Same pairs (scaled pairs e (b0 ∷ b1 ∷ b2 ∷ [])) (d ∷ v1 ∷ v2 ∷ [])
+unfolding scaled
+scaled-three e b0 b1 b2 x y z zero = x
+scaled-three e b0 b1 b2 x y z (suc zero) = y
+scaled-three e b0 b1 b2 x y z (suc (suc zero)) = z
+scaled-three e b0 b1 b2 x y z (suc (suc (suc k))) = refl
+
+pub generates-same : (D : List Pair) (κ : Pair) (w v : List Pair) → Same pairs w v → Generated D κ w → Coprime w → Generated D κ v × Coprime v
+generates-same D κ w v e h c = (
+  λ k. h k ∙ scaled-same pairs-ring κ (square pairs w) (square pairs v) (squares-same pairs-ring w v e) k,
+  λ d i. c d (λ k. subst (Divides pairs d) (sym (e k)) (i k)),
+)
 
 module _ (D E : List Pair) (e : Same pairs D E) where
   square-same : (s : Square) → SquareOf D s → SquareOf E s
@@ -88,50 +109,16 @@ module _ (D : List Pair) (o : OfCurve D) where
       let s = preimage-within (o .points) (o .range) (o .short) κ w (λ z. n (λ j. o .same j ∙ z j)) (λ j. sym (o .same j) ∙ h j) k in
       record { re = record { size = omega (arith, s .re .size) }; im = record { size = omega (arith, s .im .size) } }
 
-pub parts-slight : (e : Legs) → AllWithin 1280000 (polynomial e) → Slight (quartic (e .re)) × Slight (quartic (e .im))
-parts-slight e h = (
-  λ k. subst (Within 1280000) (sym (List·getD-map (λ (z : Pair). z .re) (polynomial e) k (pairs .none))) (h k .re),
-  λ k. subst (Within 1280000) (sym (List·getD-map (λ (z : Pair). z .im) (polynomial e) k (pairs .none))) (h k .im),
-)
+  pub factor-small : (κ : Pair) (w : List Pair) → (Still D → ⊥) → Generated D κ w → Coprime w → PartsWithin 1280000 κ
+  factor-small κ w n h p =
+      let primitive = coprime-primitive w p in
+      greatest-within pairs-slight
+      (primitive-greatest pairs-ring pairs-bezout pairs-domain D (square pairs w) κ (generated-some D κ w h n)
+      (primitive-product pairs-ring pairs-bezout w w primitive primitive) (λ k. sym (h k)))
 
--- a factor of a number within a bound
-within-factor : {B : ℕ} (c x : ℤ) → pos 0 <ℤ c → Within B (c *ℤ x) → Within B x
-within-factor c x p h = record { size = omega (arith, h .size, abs-times c x, mul-le-mul (positive-size p) (le-refl (natAbs x))) }
+pub of-legs : (ds : List Pair) → OfLegs ds → OfCurve (powerForm ds)
+unfolding legPolynomial
+of-legs ds o = record { points = o .points; range = o .range; short = o .short; same = λ k. ap (λ (p : List Pair). at pairs (powerForm p) k) (o .legs) }
 
-pub factors-known : (D : List Pair) (d : Factors) (l : ℕ) → OfCurve D → Top pairs D l → l ≤ 4 → FactorsOf D d → Known d l
-factors-known D d l o t b h =
-    let e = h .divided .multiple in
-    let back : Same pairs D (unfactored d) = λ k. sym (e k) in
-    record {
-      of-curve = record { points = o .points; range = o .range; short = o .short; same = λ k. e k ∙ o .same k };
-      factored = record { greatest = greatest-same back (h .greatest); divided = record { multiple = λ k. refl; small = h .divided .small } };
-      top = top-same back t;
-      low = b;
-    }
-
-module _ (d : Factors) (l : ℕ) (h : Known d l) where
-  abbrev D : List Pair
-  D = unfactored d
-
-  abbrev f : List Pair
-  f = five (d .f)
-
-  pub factors-move : Still D → ⊥
-  factors-move = top-some (h .top)
-
-  pub factor-some : d .g ≢ pairs .none
-  factor-some z = factors-move (greatest-zero (h .factored .greatest) .0 z)
-
-  pub factor-small : PartsWithin 1280000 (d .g)
-  factor-small = greatest-within (pairs-slight D (h .of-curve)) (h .factored .greatest)
-
-  pub factor-top : Top pairs f l
-  factor-top = top-quotient pairs-ring pairs-domain factor-some (λ k. refl) (h .top)
-
-  pub factor-multiple : Same wholes (scaled wholes (norm (d .g)) (squaredLength f)) (squaredLength D)
-  factor-multiple k = sym (squaredLength-scaled (d .g) f k)
-
-  pub factor-sized : Each wholes Sized (squaredLength f)
-  factor-sized k =
-      within-factor (norm (d .g)) (at wholes (squaredLength f) k) (norm-some (d .g) factor-some)
-      (rw (at-scaled wholes-ring (norm (d .g)) (squaredLength f) k) at (rw (sym (factor-multiple k)) at (length-sized D (h .of-curve) k)))
+pub legs-small : (ds : List Pair) → OfLegs ds → AllWithin 40000 ds
+legs-small ds o k = subst (λ (p : List Pair). PartsWithin 40000 (at pairs p k)) (sym (o .legs)) (legs-within (o .points) (o .range) k)

@@ -1,19 +1,35 @@
 -- The squares of D's parts stay within what N may be.
---   slight-small      a part of D is small enough to be squared
+--   Slight            no coefficient passes 1,280,000
+--   parts-slight      so it is of the parts of D,
+--   slight-small      so a part of D is small enough to be squared
 --   square-sized      and no coefficient of its square passes 10¹³
-use mathlib.Core.Path.{refl}
+use mathlib.Core.Path.{refl, sym, subst}
 use mathlib.Core.List.{List, [], _∷_}
 use Prim.Native.Nat.{ℕ, zero, suc, zero-le}
 use native.Mathlib.Omega.{arith}
 use lib.IntN.{ℤ}
+use lib.ListN.{List·getD-map}
 use Rattle.whole.specs.Poly.{at, sum, scaled, product, square}
 use Rattle.whole.specs.Number.{wholes, Within}
 use Rattle.whole.proofs.Wholes.{readℤ, read-pos}
 use Rattle.whole.proofs.Bound.{Bounded, done, _▸_, bounds, within}
+use Rattle.pair.specs.declared.Pair.{Pair}
+use Rattle.pair.specs.Pairs.{pairs, AllWithin}
 use Rattle.root.specs.declared.Quartic.{Quartic}
 use Rattle.root.specs.Search.{Each}
 use Rattle.root.specs.Roots.{quartic, Small}
-use Rattle.verdict.specs.Steps.{Slight}
+use Rattle.curve.specs.declared.Five.{Five}
+use Rattle.curve.specs.Curves.{reals, imaginaries}
+use Rattle.curve.specs.Steps.{five}
+
+abbrev pub Slight : List ℤ → Type 0
+Slight p = (k : ℕ) → Within 1280000 (at wholes p k)
+
+pub parts-slight : (e : Five) → AllWithin 1280000 (five e) → Slight (reals (five e)) × Slight (imaginaries (five e))
+parts-slight e h = (
+  λ k. subst (Within 1280000) (sym (List·getD-map (λ (z : Pair). z .re) (five e) k (pairs .none))) (h k .re),
+  λ k. subst (Within 1280000) (sym (List·getD-map (λ (z : Pair). z .im) (five e) k (pairs .none))) (h k .im),
+)
 
 pub slight-small : (p : List ℤ) → Slight p → Each wholes Small p
 slight-small p h k = record { size = omega (arith, h k .size) }

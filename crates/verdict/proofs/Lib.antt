@@ -2,7 +2,6 @@
 pub mod Multiples
 pub mod Quarters
 pub mod RootSizes
-pub mod EndLegs
 pub mod Lengthening
 pub mod Conjugates
 pub mod Coprime
@@ -10,7 +9,6 @@ pub mod Signs
 pub mod Squares
 pub mod Generators
 pub mod Norms
-pub mod Carried
 pub mod Once
 pub mod Refusals
 pub mod Moved
@@ -18,4 +16,14 @@ pub mod Normal
 pub mod Cover
 pub mod FoundSizes
 pub mod Turned
+pub mod Contents
+pub mod Rests
+pub mod Refused
+pub mod Reversed
+pub mod Shortened
+pub mod Cubics
+pub mod Quintics
+pub mod ByRoot
+pub mod RulesMet
+pub mod Decided
 pub mod Known

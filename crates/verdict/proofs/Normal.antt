@@ -17,20 +17,18 @@ use Rattle.poly.proofs.Squares.{root-same}
 use Rattle.poly.proofs.Wholes.{whole-zero?, positive-content, whole-square}
 use Rattle.pair.specs.declared.Pair.{Pair}
 use Rattle.pair.specs.Pairs.{pair, pairs, negative, imaginary}
-use Rattle.pair.proofs.Laws.{pairs-ring, pairs-domain}
-use Rattle.divisor.proofs.Divisors.{pair-zero?}
+use Rattle.pair.proofs.Laws.{pairs-ring, pairs-domain, pair-zero?}
 use Rattle.divisor.proofs.Euclid.{pairs-bezout}
 use Rattle.divisor.proofs.Roots.{first-some, first-found}
 use Rattle.root.specs.declared.Quartic.{Quartic}
-use Rattle.root.specs.Pairs.{quadratic, LeadKept}
-use Rattle.root.specs.declared.pairs.Quadratic.{Quadratic}
+use Rattle.verdict.specs.declared.Quadratic.{Quadratic}
 use Rattle.root.specs.Roots.{quartic, LeadPositive}
 use Rattle.root.proofs.Leads.{lead-same}
 use Rattle.curve.specs.Curves.{squaredLength}
 use Rattle.curve.proofs.Lengths.{squaredLength-zero}
 use Rattle.verdict.specs.declared.Square.{Square}
 use Rattle.verdict.specs.declared.Preimage.{Preimage}
-use Rattle.verdict.specs.Verdicts.{Still, Squared, Generated, Coprime, SquareOf, PreimageOf}
+use Rattle.verdict.specs.Verdicts.{Still, Squared, Generated, Coprime, SquareOf, PreimageOf, quadratic, LeadKept}
 use Rattle.verdict.proofs.Coprime.{primitive-coprime, unit-coprime}
 use Rattle.verdict.proofs.Multiples.{squared-above}
 use Rattle.verdict.proofs.Generators.{generated-turned, generated-opposite}

@@ -2,16 +2,16 @@
 --   generated-content      D = κ w² with w primitive and κ not 0: |κ|² is the greatest common divisor of N
 --   generated-square-of    and |κ|² and |w|² are the c and q that the rules leave
 --   Reduced, reduced       D = κ w², not 0: it is so with a primitive w
---   greatest-norm          D = g E with g its greatest common divisor: |g|² is that of N, by Gauss's lemma
 use mathlib.Core.Path.{_≡_, sym, ap, _∙_}
 use mathlib.Core.List.{List}
 use mathlib.Core.Logic.{_≢_}
+use Prim.Native.Nat.{ℕ}
 use lib.IntN.{_*ℤ_}
 use Rattle.whole.specs.Poly.{Same, Greatest, scaled, square}
 use Rattle.whole.specs.Number.{wholes}
 use Rattle.whole.proofs.Integers.{*ℤ-1}
 use Rattle.whole.proofs.Wholes.{wholes-ring}
-use Rattle.poly.specs.Terms.{Primitive}
+use Rattle.poly.specs.Terms.{Primitive, Top}
 use Rattle.poly.proofs.Lists.{scaled-same, square-same}
 use Rattle.poly.proofs.Gauss.{primitive-product}
 use Rattle.poly.proofs.Content.{quotients, greatest-some, quotient-primitive, primitive-greatest}
@@ -24,14 +24,12 @@ use Rattle.divisor.proofs.Euclid.{pairs-bezout}
 use Rattle.divisor.proofs.Units.{unit-norm}
 use Rattle.root.specs.declared.Quartic.{Quartic}
 use Rattle.root.specs.Roots.{quartic}
-use Rattle.root.specs.Pairs.{LeadKept}
 use Rattle.root.proofs.Leads.{lead-same}
 use Rattle.curve.specs.Curves.{squaredLength}
-use Rattle.curve.proofs.Lengths.{squaredLength-same, squaredLength-scaled, squaredLength-lead-positive}
 use Rattle.verdict.specs.Verdicts.{Still, Generated, SquareOf}
 use Rattle.verdict.proofs.Multiples.{generated-squared}
 use Rattle.verdict.proofs.Conjugates.{squaredLength-primitive}
-use Rattle.verdict.proofs.Signs.{first-top}
+use Rattle.verdict.proofs.Signs.{squaredLength-lead-positive}
 
 pub generated-content : (D : List Pair) (κ : Pair) (w : List Pair) → κ ≢ pairs .none → Primitive pairs w → Generated D κ w
     → Greatest wholes (squaredLength D) (norm κ)
@@ -40,13 +38,13 @@ generated-content D κ w n h e =
     (primitive-product wholes-ring wholes-bezout (squaredLength w) (squaredLength w) (squaredLength-primitive w h) (squaredLength-primitive w h))
     (λ k. sym (generated-squared D κ w e k))
 
-pub generated-square-of : (D : List Pair) (κ : Pair) (w : List Pair) (q : Quartic) → κ ≢ pairs .none → Primitive pairs w → LeadKept w → Generated D κ w
+pub generated-square-of : (D : List Pair) (κ : Pair) (w : List Pair) (q : Quartic) {L : ℕ} → κ ≢ pairs .none → Primitive pairs w → Top pairs w L → Generated D κ w
     → Same wholes (quartic q) (squaredLength w) → SquareOf D (record { c = norm κ; q = q })
 generated-square-of D κ w q n h l e s = record {
   positive = norm-some κ n;
   squared = λ k. generated-squared D κ w e k ∙ sym (scaled-same wholes-ring (norm κ) (square wholes (quartic q)) (square wholes (squaredLength w)) (square-same wholes-ring (quartic q) (squaredLength w) s) k);
   content = generated-content D κ w n h e;
-  lead = lead-same (λ k. sym (s k)) (squaredLength-lead-positive (first-top l));
+  lead = lead-same (λ k. sym (s k)) (squaredLength-lead-positive l);
 }
 
 -- D = κ w² with w primitive
@@ -70,10 +68,3 @@ reduced D g κ w h n e =
       root-primitive = r .root-primitive;
       generated = λ k. sym (j k) ∙ square-multiple pairs-ring g (r .unit) E (r .root) (r .squared) k;
     }
-
-pub greatest-norm : (D E : List Pair) (g : Pair) → g ≢ pairs .none → Greatest pairs D g → Same pairs (scaled pairs g E) D
-    → Greatest wholes (squaredLength D) (norm g)
-greatest-norm D E g n h e =
-    primitive-greatest wholes-ring wholes-bezout wholes-domain (squaredLength D) (squaredLength E) (norm g) (λ z. n (norm-zero g z))
-    (squaredLength-primitive E (quotient-primitive pairs-ring pairs-domain E n h e))
-    (λ k. sym (squaredLength-scaled g E k) ∙ squaredLength-same (scaled pairs g E) D e k)

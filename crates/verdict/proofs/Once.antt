@@ -1,4 +1,5 @@
 -- One answer: the rules leave one c and q, one κ and w, and one verdict.
+--   quadratic-same         a struct is decided by its polynomial
 --   square-once            the c and q of N
 --   generators-agree       κ w² = κ′ w′², all normalised, gives κ = κ′ and w = w′
 --   preimage-norms         of a pre-image c = |κ|² and q = |w|²
@@ -30,29 +31,31 @@ use Rattle.pair.proofs.Laws.{pairs-ring, pairs-domain, norm-nonneg}
 use Rattle.divisor.proofs.Euclid.{pairs-bezout}
 use Rattle.divisor.proofs.Roots.{not-both, first-some}
 use Rattle.divisor.proofs.Units.{no-imaginary-square}
-use Rattle.root.specs.Pairs.{quadratic, LeadKept}
 use Rattle.root.specs.Roots.{quartic}
-use Rattle.root.proofs.Once.{quartic-same, quadratic-same}
-use Rattle.root.proofs.Leads.{positive-lead-once, kept-lead-once}
+use Rattle.root.proofs.Once.{quartic-same}
+use Rattle.root.proofs.Leads.{positive-lead-once}
 use Rattle.curve.specs.Curves.{squaredLength, legPolynomial}
 use Rattle.curve.specs.Promise.{out-of-range}
-use Rattle.curve.proofs.Lengths.{squaredLength-lead-positive}
+use Rattle.verdict.specs.declared.Quadratic.{Quadratic}
 use Rattle.verdict.specs.declared.Square.{Square}
 use Rattle.verdict.specs.declared.Preimage.{Preimage}
 use Rattle.verdict.specs.declared.Verdict.{Verdict}
 use Rattle.verdict.specs.declared.Verdict.the-variants as verdict
-use Rattle.verdict.specs.Verdicts.{Generated, Coprime, SquareOf, PreimageOf, WithPreimage, Holds}
+use Rattle.verdict.specs.Verdicts.{Generated, Coprime, SquareOf, PreimageOf, WithPreimage, Holds, quadratic, LeadKept}
 use Rattle.verdict.specs.declared.PreimageAnswer.{PreimageAnswer}
 use Rattle.verdict.specs.declared.PreimageAnswer.the-variants.{Found, Refused}
 use Rattle.verdict.specs.Promise.{answerOfVerdict, answerOfPreimage, preimage-causes, Recognised, Preimaged}
 use Rattle.verdict.proofs.Coprime.{by-unit, coprime-primitive}
 use Rattle.verdict.proofs.Multiples.{generated-squared}
 use Rattle.verdict.proofs.Norms.{generated-content}
-use Rattle.verdict.proofs.Signs.{first-top}
+use Rattle.verdict.proofs.Signs.{first-top, squaredLength-lead-positive, kept-lead-once}
 
 -- ---- c and q
 positive-some : {c : ℤ} → pos 0 <ℤ c → c ≢ pos 0
 positive-some h z = omega linear
+
+pub quadratic-same : (u w : Quadratic) → Same pairs (quadratic u) (quadratic w) → u ≡ w
+quadratic-same u w e i = record { b0 = e 0 i; b1 = e 1 i; b2 = e 2 i }
 
 pub square-once : (D : List Pair) (s t : Square) → SquareOf D s → SquareOf D t → s ≡ t
 square-once D s t h k = λ i. record { c = c i; q = q i }

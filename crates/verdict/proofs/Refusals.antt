@@ -11,14 +11,13 @@ use Rattle.refusal.specs.Table.{First, numberOf}
 use Rattle.refusal.proofs.Laws.{number-some, first-none, first-kept}
 use Rattle.pair.specs.declared.Pair.{Pair}
 use Rattle.root.specs.Roots.{quartic}
-use Rattle.root.specs.Pairs.{quadratic}
 use Rattle.curve.specs.Curves.{InRange, legPolynomial}
 use Rattle.curve.specs.Promise.{out-of-range}
 use Rattle.verdict.specs.declared.Verdict.{Verdict}
 use Rattle.verdict.specs.declared.Verdict.the-variants as verdict
 use Rattle.verdict.specs.declared.PreimageAnswer.{PreimageAnswer}
 use Rattle.verdict.specs.declared.PreimageAnswer.the-variants.{Found, Refused}
-use Rattle.verdict.specs.Verdicts.{Holds}
+use Rattle.verdict.specs.Verdicts.{Holds, quadratic}
 use Rattle.verdict.specs.Promise.{still, not-ph, no-preimage, Recognised, Preimaged}
 
 abbrev pub preimageAnswer : Verdict → PreimageAnswer

@@ -23,8 +23,7 @@ use Rattle.poly.proofs.Top.{root-above}
 use Rattle.poly.proofs.Blends.{form-within}
 use Rattle.pair.specs.declared.Pair.{Pair}
 use Rattle.pair.specs.Pairs.{pairs, norm, PartsWithin}
-use Rattle.pair.proofs.Laws.{pairs-ring, pairs-domain, root-le, norm-size, norm-some}
-use Rattle.divisor.proofs.Divisors.{pair-zero?}
+use Rattle.pair.proofs.Laws.{pairs-ring, pairs-domain, root-le, norm-size, norm-some, pair-zero?}
 use Rattle.curve.specs.Curves.{InRange, differences, legPolynomial, squaredLength}
 use Rattle.curve.proofs.Lengths.{re-of, im-of, re-above, im-above, pairForm, squaredLength-form}
 use Rattle.curve.proofs.LegPolynomial.{Part, re-part, im-part, legPolynomial-part, legPolynomial-fourth, legs-within}

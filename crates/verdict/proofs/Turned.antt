@@ -1,12 +1,12 @@
 -- Pairs and polynomials turned by a unit, and the signs of κ and w.
 --   imaginary-some                     i is not 0
---   opposite-some, turned-some         i a and −a are not 0 where a is not
 --   turned-all                         i w is no larger than w
 --   turned-twice                       i (i w) is −w
 --   lead-of                            where w keeps its sign, so does its highest coefficient
+--   coprime-some                       a coprime w is not 0
 --   pre-holds                          D = κ w² with the signs of the rules: the verdict is pre
 use mathlib.Core.Path.{_≡_, sym, ap, _∙_, subst}
-use mathlib.Core.List.{List}
+use mathlib.Core.List.{List, []}
 use mathlib.Core.Logic.{_≢_, ⊎-elim}
 use Prim.Native.Nat.{ℕ}
 use lib.IntN.{pos, negsuc}
@@ -21,23 +21,16 @@ use Rattle.pair.specs.declared.Pair.{Pair}
 use Rattle.pair.specs.Pairs.{pair, pairs, times, negative, imaginary, AllWithin}
 use Rattle.pair.proofs.Laws.{pairs-ring, pairs-domain, negative-twice}
 use Rattle.pair.proofs.Parts.{turned-within}
-use Rattle.root.specs.Pairs.{quadratic, LeadKept}
 use Rattle.verdict.specs.declared.Preimage.{Preimage}
 use Rattle.verdict.specs.declared.Verdict.the-variants as verdict
-use Rattle.verdict.specs.Verdicts.{Still, Coprime, Generated, SquareOf, Holds}
+use Rattle.verdict.specs.Verdicts.{Still, Coprime, Generated, SquareOf, Holds, quadratic, LeadKept}
 use Rattle.verdict.specs.Steps.{Normalised}
 use Rattle.verdict.proofs.Coprime.{coprime-primitive, primitive-coprime, unit-coprime}
 use Rattle.verdict.proofs.Generators.{generated-scaled}
 use Rattle.verdict.proofs.Signs.{first-top}
 
-pub opposite-some : {a : Pair} → a ≢ pairs .none → negative a ≢ pairs .none
-opposite-some {a} n z = n (sym (negative-twice a) ∙ ap negative z)
-
 pub imaginary-some : imaginary ≢ pairs .none
 imaginary-some z = let t : pos 1 ≡ pos 0 = ap (λ a. a .im) z in omega linear
-
-pub turned-some : {a : Pair} → a ≢ pairs .none → times imaginary a ≢ pairs .none
-turned-some {a} n z = ⊎-elim imaginary-some n (pairs-domain .splits imaginary a z)
 
 pub turned-all : {B : ℕ} (w v : List Pair) → Same pairs v (scaled pairs imaginary w) → AllWithin B w → AllWithin B v
 turned-all w v e h k = rw (e k ∙ at-scaled pairs-ring imaginary w k) (turned-within (h k))
@@ -61,3 +54,6 @@ pre-holds D w κ p n e c s h = (
     square-of = s;
   },
 )
+
+pub coprime-some : (w : List Pair) → Coprime w → Same pairs w [] → ⊥
+coprime-some w h z = let e : pos 0 ≡ pos 1 = h (pairs .none) (λ k. record { factor = pairs .none; is = sym (z k) }) in omega linear

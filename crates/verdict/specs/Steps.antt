@@ -1,51 +1,39 @@
 -- The steps of recognition: what each part of it computes.
---   OfCurve D                  D is that of a curve in range
---   Slight                     a part of D of a curve in range: no coefficient above 1,280,000 in size
---   NormsSquare, EndsSquare    |a|² |z|² is a square; so it is of the first and the last leg of these points
+--   OfCurve D, OfLegs ds       D is that of a curve in range; ds are its legs
+--   FirstEnd, LastEnd          the first, and the last leg's norm divides as that of a Pythagorean curve does
 --   IsHighest                  the highest power of a polynomial, or that it is 0
---   Carries D g                every common divisor of D's pairs divides g
---   PairsDivided, IsPairsQuotient   D = g E; the quotient D / g, or that there is none
---   FactorsOf, unfactored     D = g f, where g is the greatest common divisor of D's pairs; that product
---   Known d l                  so d is factored, and D is that of a curve and has the highest power l
---   GeneratorOf, IsGeneration  D = κ w² with a coprime w and the sign of the rule, all small; that, or that D is no κ w²
---   TurnedRoot w v             v is i w or −i w, with the sign of the rule
+--   Shared e d v1 v2           e divides d, v1 and v2, and d divides e²
+--   Over e d v1 v2 s           w is d + v1 t + v2 t² divided by e, and d κ is e²
+--   Generates D s              D = κ w² with a coprime w
+--   IsGeneration, IsLine       such κ and w, or that D is no κ w²; the same, where w has no second power
+--   IsMiddle                   the only m that may meet the quintic rule, or that none does
+--   MeetsRule, ByMiddle        m meets it with some legs; κ and w for all legs with which it does
+--   Signed w v                 v is w or −w, with the sign of the rule
 --   Normalised κ w p           p is κ w², with the signs of the rules
 use mathlib.Core.Path.{_≡_}
-use mathlib.Core.List.{List, []}
+use mathlib.Core.List.{List, [], _∷_}
 use mathlib.Core.Logic.{_≢_}
-use Prim.Native.Nat.{ℕ, _*_, _-_, _≤_}
-use lib.IntN.{ℤ, pos, negsuc, _*ℤ_}
+use Prim.Native.Nat.{ℕ, _^_, _≤_}
+use lib.IntN.{pos}
 use lib.ListN.{length}
-use Rattle.whole.specs.Number.{wholes, Within, FirstPositive}
-use Rattle.whole.specs.Poly.{at, Same, scaled, Divides, Greatest}
+use Rattle.whole.specs.Number.{FirstPositive}
+use Rattle.whole.specs.Poly.{Same, scaled, Divides}
 use Rattle.poly.specs.Terms.{Top}
 use Rattle.pair.specs.declared.Pair.{Pair}
-use Rattle.pair.specs.Pairs.{pair, pairs, times, norm, PartsWithin, AllWithin}
-use Rattle.root.specs.Pairs.{five, quadratic, LeadKept}
-use Rattle.curve.specs.Curves.{InRange, differences, legPolynomial}
+use Rattle.pair.specs.Pairs.{pairs, times, minus, multiple, norm, one, PartsWithin}
+use Rattle.curve.specs.declared.Legs.{Legs}
+use Rattle.curve.specs.declared.Legs.the-variants.{Cubic, Quintic}
+use Rattle.curve.specs.Curves.{InRange, differences, powerForm, legPolynomial}
 use Rattle.verdict.specs.declared.Highest.{Highest}
 use Rattle.verdict.specs.declared.Highest.the-variants.{Power, Zero}
-use Rattle.verdict.specs.declared.divisors.Factors.{Factors}
-use Rattle.verdict.specs.declared.divisors.PairsQuotient.{PairsQuotient}
-use Rattle.verdict.specs.declared.divisors.PairsQuotient.the-variants.{Whole, Fraction}
-use Rattle.verdict.specs.declared.preimages.Generator.{Generator}
-use Rattle.verdict.specs.declared.preimages.Generation.{Generation}
-use Rattle.verdict.specs.declared.preimages.Generation.the-variants.{Found, None}
+use Rattle.verdict.specs.declared.rules.Generator.{Generator}
+use Rattle.verdict.specs.declared.rules.Generation.{Generation}
+use Rattle.verdict.specs.declared.rules.Generation.the-variants as generation
+use Rattle.verdict.specs.declared.rules.Middle.{Middle}
+use Rattle.verdict.specs.declared.rules.Middle.the-variants as middle
 use Rattle.verdict.specs.declared.Preimage.{Preimage}
-use Rattle.verdict.specs.Verdicts.{Generated, NotGenerated, Coprime}
-
-abbrev pub Slight : List ℤ → Type 0
-Slight p = (k : ℕ) → Within 1280000 (at wholes p k)
-
-abbrev pub NormsSquare : Pair → Pair → Type 0
-NormsSquare a z = (m : ℕ) × (norm a *ℤ norm z ≡ pos (m * m))
-
-abbrev pub EndsSquare : List Pair → Type 0
-EndsSquare ps = NormsSquare (at pairs (differences ps) 0) (at pairs (differences ps) (length ps - 2))
-
-abbrev pub IsHighest : List Pair → Highest → Type 0
-IsHighest D (Power k) = Top pairs D k × (k ≤ 4)
-IsHighest D Zero = Same pairs D []
+use Rattle.verdict.specs.Verdicts.{Generated, NotGenerated, Coprime, quadratic, LeadKept}
+use Rattle.verdict.specs.Rules.{EndDivides, QuinticRule}
 
 pub record OfCurve (D : List Pair) : Type 0 where
   pub points : List Pair
@@ -53,46 +41,65 @@ pub record OfCurve (D : List Pair) : Type 0 where
   pub short : length points ≤ 6
   pub same : Same pairs D (legPolynomial points)
 
-abbrev pub Carries : List Pair → Pair → Type 0
-Carries D g = (d : Pair) → ((k : ℕ) → Divides pairs d (at pairs D k)) → Divides pairs d g
+pub record OfLegs (ds : List Pair) : Type 0 where
+  pub points : List Pair
+  pub range : InRange points
+  pub short : length points ≤ 6
+  pub legs : ds ≡ differences points
 
-pub record PairsDivided (D : List Pair) (g : Pair) (E : List Pair) : Type 0 where
-  pub multiple : Same pairs (scaled pairs g E) D
-  pub small : AllWithin 1280000 E
+abbrev pub FirstEnd : Legs → Type 0
+FirstEnd (Cubic d0 d1 d2) = EndDivides (pos 2) d0 d1
+FirstEnd (Quintic d0 d1 d2 d3 d4) = EndDivides (pos 8) d0 d1
 
-abbrev pub IsPairsQuotient : List Pair → Pair → PairsQuotient → Type 0
-IsPairsQuotient D g (Whole f) = PairsDivided D g (five f)
-IsPairsQuotient D g Fraction = g ≢ pairs .none → ((k : ℕ) → Divides pairs g (at pairs D k)) → ⊥
+abbrev pub LastEnd : Legs → Type 0
+LastEnd (Cubic d0 d1 d2) = EndDivides (pos 2) d2 d1
+LastEnd (Quintic d0 d1 d2 d3 d4) = EndDivides (pos 8) d4 d3
 
-pub record FactorsOf (D : List Pair) (d : Factors) : Type 0 where
-  pub greatest : Greatest pairs D (d .g)
-  pub divided : PairsDivided D (d .g) (five (d .f))
+abbrev pub IsHighest : List Pair → Highest → Type 0
+IsHighest D (Power k) = Top pairs D k × (k ≤ 4)
+IsHighest D Zero = Same pairs D []
 
-abbrev pub unfactored : Factors → List Pair
-unfactored d = scaled pairs (d .g) (five (d .f))
+pub record Shared (e d v1 v2 : Pair) : Type 0 where
+  pub e-small : PartsWithin (2 ^ 20) e
+  pub d-small : PartsWithin (2 ^ 20) d
+  pub v1-small : PartsWithin (2 ^ 20) v1
+  pub v2-small : PartsWithin (2 ^ 20) v2
+  pub d-some : d ≢ pairs .none
+  pub divides-d : Divides pairs e d
+  pub divides-v1 : Divides pairs e v1
+  pub divides-v2 : Divides pairs e v2
+  pub divided : Divides pairs d (times e e)
 
-pub record Known (d : Factors) (l : ℕ) : Type 0 where
-  pub of-curve : OfCurve (unfactored d)
-  pub factored : FactorsOf (unfactored d) d
-  pub top : Top pairs (unfactored d) l
-  pub low : l ≤ 4
+pub record Over (e d v1 v2 : Pair) (s : Generator) : Type 0 where
+  pub root : Same pairs (scaled pairs e (quadratic (s .w))) (d ∷ v1 ∷ v2 ∷ [])
+  pub factor : times d (s .k) ≡ times e e
 
-pub record GeneratorOf (D : List Pair) (s : Generator) : Type 0 where
+pub record Generates (D : List Pair) (s : Generator) : Type 0 where
   pub generated : Generated D (s .k) (quadratic (s .w))
-  pub some : s .k ≢ pairs .none
-  pub factor-small : PartsWithin 1280000 (s .k)
-  pub small : AllWithin 20000 (quadratic (s .w))
-  pub lead : LeadKept (quadratic (s .w))
   pub coprime : Coprime (quadratic (s .w))
 
 abbrev pub IsGeneration : List Pair → Generation → Type 0
-IsGeneration D (Found s) = GeneratorOf D s
-IsGeneration D None = NotGenerated D
+IsGeneration D (generation.Found s) = Generates D s
+IsGeneration D generation.None = NotGenerated D
 
-pub record TurnedRoot (w v : List Pair) : Type 0 where
+abbrev pub IsLine : List Pair → Generation → Type 0
+IsLine D (generation.Found s) = Generates D s × (s .w .b2 ≡ pairs .none)
+IsLine D generation.None = NotGenerated D
+
+abbrev pub IsMiddle : Pair → Pair → Pair → Middle → Type 0
+IsMiddle d0 d1 d2 (middle.Found m) = (times d0 m ≡ minus (multiple (pos 3) (times d0 d2)) (multiple (pos 2) (times d1 d1))) × PartsWithin 56568 m
+IsMiddle d0 d1 d2 middle.None = (d3 d4 m : Pair) → PartsWithin 40000 d4 → QuinticRule d0 d1 d2 d3 d4 m → ⊥
+
+abbrev pub MeetsRule : Pair → Pair → Pair → Type 0
+MeetsRule d0 d1 m = (d2 : Pair) × (d3 : Pair) × (d4 : Pair) × QuinticRule d0 d1 d2 d3 d4 m
+
+abbrev pub ByMiddle : Pair → Pair → Pair → Generator → Type 0
+ByMiddle d0 d1 m s = (d2 d3 d4 : Pair) → QuinticRule d0 d1 d2 d3 d4 m → Generates (powerForm (d0 ∷ d1 ∷ d2 ∷ d3 ∷ d4 ∷ [])) s
+
+pub record Signed (w v : List Pair) : Type 0 where
   pub unit : Pair
   pub is-unit : norm unit ≡ pos 1
-  pub square : times unit unit ≡ pair (negsuc 0) (pos 0)
+  pub square : times unit unit ≡ one
   pub turned : Same pairs v (scaled pairs unit w)
   pub lead : LeadKept v
 

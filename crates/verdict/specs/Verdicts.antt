@@ -1,4 +1,6 @@
 -- Which of the four verdicts holds of a curve, with its data, from its leg polynomial D.
+--   quadratic                            the polynomial that the struct holds
+--   Kept, LeadKept                       the sign rule: of a pair, and of the highest coefficient that is not 0
 --   Squared, Generated                   N = c q²; D = κ w²
 --   Still, NotSquared, NotGenerated      D = 0; N is no c q²; D is no κ w²
 --   Coprime                              w has no common divisor but the four units
@@ -6,7 +8,7 @@
 --   WithPreimage D P                     D has a pre-image, and P holds of it
 --   Holds                                the verdict on D
 use mathlib.Core.Path.{_≡_}
-use mathlib.Core.List.{List, []}
+use mathlib.Core.List.{List, [], _∷_}
 use Prim.Native.Nat.{ℕ}
 use lib.IntN.{ℤ, pos}
 use lib.Signed.{_<ℤ_}
@@ -15,12 +17,23 @@ use Rattle.whole.specs.Number.{wholes, FirstPositive}
 use Rattle.pair.specs.declared.Pair.{Pair}
 use Rattle.pair.specs.Pairs.{norm, pairs}
 use Rattle.root.specs.Roots.{quartic, LeadPositive}
-use Rattle.root.specs.Pairs.{quadratic, LeadKept}
+use Rattle.root.specs.Search.{Lead}
 use Rattle.curve.specs.Curves.{squaredLength}
+use Rattle.verdict.specs.declared.Quadratic.{Quadratic}
 use Rattle.verdict.specs.declared.Square.{Square}
 use Rattle.verdict.specs.declared.Preimage.{Preimage}
 use Rattle.verdict.specs.declared.Verdict.{Verdict}
 use Rattle.verdict.specs.declared.Verdict.the-variants as verdict
+
+abbrev pub quadratic : Quadratic → List Pair
+quadratic w = w .b0 ∷ w .b1 ∷ w .b2 ∷ []
+
+-- the first part that is not zero is positive
+abbrev pub Kept : Pair → Type 0
+Kept a = FirstPositive (a .re) (a .im)
+
+abbrev pub LeadKept : List Pair → Type 0
+LeadKept = Lead pairs Kept
 
 -- N = c q², with whole numbers
 abbrev pub Squared : List Pair → ℤ → List ℤ → Type 0

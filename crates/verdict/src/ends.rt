@@ -1,57 +1,69 @@
-// The ends of a curve, which refuse most curves that are not Pythagorean: where N = c q^2, the norms of the first and the last leg have a
-// square for their product.
-use curve::Curve;
+// The ends of a curve, which refuse most curves that are not Pythagorean: where N = c q^2, the norm of a leg at an end divides a multiple of
+// the square of its cross product with the next.
+use curve::Legs;
 use pair::Pair;
-use pair::difference;
+use pair::is_zero;
 use pair::norm;
-use whole::Root;
-use whole::square_root;
+use whole::size;
 ghost use mathlib.Core.Path.{_≡_};
-ghost use Prim.Native.Nat.{_≤_};
+ghost use mathlib.Core.Logic.{_≢_};
+ghost use Prim.Native.Nat.{_*_, _%_, _≤_};
 ghost use lib.IntN.{pos};
 ghost use Rattle.whole.specs.Number.{Tells};
-ghost use Rattle.pair.specs.Pairs.{minus, norm, PartsWithin};
-ghost use Rattle.curve.specs.Curves.{pointsOf, InRange};
-ghost use Rattle.verdict.specs.Steps.{NormsSquare, EndsSquare};
+ghost use Rattle.pair.specs.Pairs.{pairs, PartsWithin, AllWithin};
+ghost use Rattle.curve.specs.Steps.{legsOf};
+ghost use Rattle.verdict.specs.Rules.{cross, EndDivides};
+ghost use Rattle.verdict.specs.Steps.{FirstEnd, LastEnd};
 
-// |b - a|^2
-fn leg_norm(a: Pair, b: Pair) -> u64
-    requires { ⌜ PartsWithin 20000 a × PartsWithin 20000 b ⌝ }
-    ensures { λ r. ⌜ (norm (minus b a) ≡ pos r) × (r ≤ 3200000000) ⌝ }
+// d × e
+fn cross(d: Pair, e: Pair) -> i64
+    requires { ⌜ PartsWithin 40000 d × PartsWithin 40000 e ⌝ }
+    ensures { λ r. ⌜ r ≡ cross d e ⌝ }
 {
-    norm(difference(b, a)) as u64
+    let x = d.re;
+    let y = d.im;
+    let u = e.re;
+    let v = e.im;
+    x * v - y * u
 }
 
-// Whether |b - a|^2 |z - y|^2 is a square.
-fn legs_are_square(a: Pair, b: Pair, y: Pair, z: Pair) -> bool
-    requires { ⌜ PartsWithin 20000 a × PartsWithin 20000 b × PartsWithin 20000 y × PartsWithin 20000 z ⌝ }
-    ensures { λ r. ⌜ Tells (NormsSquare (minus b a) (minus z y)) r ⌝ }
+// Whether d divides n times the square of x, by remainders.
+fn divides_square(d: u64, x: u64, n: u64) -> bool
+    requires { ⌜ (d ≢ 0) × (d ≤ 3200000000) × (x ≤ 3200000000) × (n ≤ 8) ⌝ }
+    ensures { λ r. ⌜ Tells (x * x * n % d ≡ 0) r ⌝ }
 {
-    match square_root(leg_norm(a, b) * leg_norm(y, z)) {
-        Root::Square(_) => true,
-        Root::NotSquare => false,
+    (x * x % d) * n % d == 0
+}
+
+// Whether |d|^2 divides n (d × e)^2.
+fn end_divides(d: Pair, e: Pair, n: u64) -> bool
+    requires { ⌜ PartsWithin 40000 d × PartsWithin 40000 e × (n ≤ 8) ⌝ }
+    ensures { λ r. ⌜ Tells (EndDivides (pos n) d e) r ⌝ }
+{
+    if is_zero(d) {
+        return true;
+    }
+    divides_square(norm(d) as u64, size(cross(d, e)), n)
+}
+
+// Whether it is so at the first leg.
+pub(crate) fn first_end(legs: Legs) -> bool
+    requires { ⌜ AllWithin 40000 (legsOf legs) ⌝ }
+    ensures { λ r. ⌜ Tells (FirstEnd legs) r ⌝ }
+{
+    match legs {
+        Legs::Cubic(d0, d1, _) => end_divides(d0, d1, 2),
+        Legs::Quintic(d0, d1, _, _, _) => end_divides(d0, d1, 8),
     }
 }
 
-// Whether this holds of the first and the last leg.
-pub(crate) fn ends_are_square(curve: Curve) -> bool
-    requires { ⌜ InRange (pointsOf curve) ⌝ }
-    ensures { λ r. ⌜ Tells (EndsSquare (pointsOf curve)) r ⌝ }
+// Whether it is so at the last.
+pub(crate) fn last_end(legs: Legs) -> bool
+    requires { ⌜ AllWithin 40000 (legsOf legs) ⌝ }
+    ensures { λ r. ⌜ Tells (LastEnd legs) r ⌝ }
 {
-    match curve {
-        Curve::Cubic(c) => {
-            let p0 = c.p0;
-            let p1 = c.p1;
-            let p2 = c.p2;
-            let p3 = c.p3;
-            legs_are_square(p0, p1, p2, p3)
-        }
-        Curve::Quintic(c) => {
-            let p0 = c.p0;
-            let p1 = c.p1;
-            let p4 = c.p4;
-            let p5 = c.p5;
-            legs_are_square(p0, p1, p4, p5)
-        }
+    match legs {
+        Legs::Cubic(_, d1, d2) => end_divides(d2, d1, 2),
+        Legs::Quintic(_, _, _, d3, d4) => end_divides(d4, d3, 8),
     }
 }

@@ -1,33 +1,47 @@
 // The verdict on a curve: whether it is Pythagorean, and by which numbers.
-mod divisors;
 mod ends;
-mod forms;
 mod preimages;
+mod roots;
+mod rules;
 mod speeds;
 
 use curve::Curve;
 use curve::Legs;
-use curve::drawn;
 use curve::in_range;
-use divisors::factored;
-use ends::ends_are_square;
-use forms::degree;
-use forms::to_pairs;
+use curve::legs_of;
+use ends::first_end;
+use ends::last_end;
 use pair::Pair;
-use preimages::judged;
+use pair::is_zero;
+use preimages::generated;
 use refusal::Refusal;
 use root::Quartic;
-use root::pairs::Quadratic;
-ghost use Rattle.curve.specs.Curves.{pointsOf};
-ghost use Rattle.curve.specs.Steps.{polynomial};
-ghost use Rattle.verdict.specs.Verdicts.{Holds};
+pub use roots::imaginaries;
+pub use roots::reals;
+use roots::squared;
+use rules::Generation;
+use rules::generator_of;
+ghost use mathlib.Core.List.{_∷_, []};
+ghost use Rattle.whole.specs.Number.{Tells};
+ghost use Rattle.whole.specs.Poly.{Same};
+ghost use Rattle.pair.specs.Pairs.{pairs};
+ghost use Rattle.curve.specs.Curves.{pointsOf, powerForm};
+ghost use Rattle.curve.specs.Steps.{legsOf};
+ghost use Rattle.verdict.specs.Verdicts.{NotGenerated, Holds};
 ghost use Rattle.verdict.specs.Promise.{Recognised, Preimaged};
-ghost use Rattle.verdict.specs.Steps.{OfCurve};
+ghost use Rattle.verdict.specs.Steps.{OfLegs};
 
 // The highest power of a polynomial that has a coefficient other than 0.
 pub enum Highest {
     Power(u64),
     Zero,
+}
+
+// b0 + b1 t + b2 t^2
+pub struct Quadratic {
+    pub b0: Pair,
+    pub b1: Pair,
+    pub b2: Pair,
 }
 
 // N = c q^2
@@ -56,16 +70,64 @@ pub enum PreimageAnswer {
     Refused(Refusal),
 }
 
-// The verdict on D.
-fn decide(d: Legs) -> Verdict
-    requires { ⌜ OfCurve (polynomial d) ⌝ }
-    ensures { λ v. ⌜ Holds (polynomial d) v ⌝ }
+fn three_are_zero(a: Pair, b: Pair, c: Pair) -> bool
+    ensures { λ r. ⌜ Tells (Same pairs (a ∷ b ∷ c ∷ []) []) r ⌝ }
 {
-    let e = to_pairs(d);
-    let Highest::Power(l) = degree(e) else {
+    if !is_zero(a) {
+        return false;
+    }
+    if !is_zero(b) {
+        return false;
+    }
+    is_zero(c)
+}
+
+// Whether every leg is 0.
+fn is_still(legs: Legs) -> bool
+    ensures { λ r. ⌜ Tells (Same pairs (legsOf legs) []) r ⌝ }
+{
+    match legs {
+        Legs::Cubic(d0, d1, d2) => three_are_zero(d0, d1, d2),
+        Legs::Quintic(d0, d1, d2, d3, d4) => {
+            if !three_are_zero(d0, d1, d2) {
+                return false;
+            }
+            if !is_zero(d3) {
+                return false;
+            }
+            is_zero(d4)
+        }
+    }
+}
+
+// The verdict where D is no k w^2: most near misses fail at the last leg.
+fn unmade(legs: Legs) -> Verdict
+    requires { ⌜ OfLegs (legsOf legs) × NotGenerated (powerForm (legsOf legs)) ⌝ }
+    ensures { λ v. ⌜ Holds (powerForm (legsOf legs)) v ⌝ }
+{
+    if !last_end(legs) {
+        return Verdict::No;
+    }
+    squared(legs)
+}
+
+// The verdict, from the legs.
+fn decide(legs: Legs) -> Verdict
+    requires { ⌜ OfLegs (legsOf legs) ⌝ }
+    ensures { λ v. ⌜ Holds (powerForm (legsOf legs)) v ⌝ }
+{
+    if !first_end(legs) {
+        return Verdict::No;
+    }
+    if is_still(legs) {
         return Verdict::Still;
+    }
+    let Generation::Found(s) = generator_of(legs) else {
+        return unmade(legs);
     };
-    judged(factored(e), l)
+    let k = s.k;
+    let w = s.w;
+    generated(k, w)
 }
 
 // Whether a curve is Pythagorean, and if so by which numbers.
@@ -75,10 +137,7 @@ pub fn recognise(curve: Curve) -> Verdict
     if !in_range(curve) {
         return Verdict::Refused(Refusal::Range);
     }
-    if !ends_are_square(curve) {
-        return Verdict::No;
-    }
-    decide(drawn(curve))
+    decide(legs_of(curve))
 }
 
 // The pre-image, for the calls that measure a curve by it.

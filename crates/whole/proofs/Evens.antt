@@ -6,6 +6,7 @@
 --   Both d x y             d divides both; both-turned: in whatever order
 --   Shared g x y           g has just the divisors that x and y have in common; shared-greatest, greatest-shared: it is the greatest common divisor
 --   shared-turned          the order of the two does not matter
+--   with-zero              0 and a number share what divides the number
 --   shared-le              a divisor of a number other than 0 is no larger
 --   odd-step               the difference of two odd numbers may take the place of one of them, without its factors of 2
 --   shared-powers          of powers of 2 in two numbers the smaller is common to both
@@ -23,7 +24,7 @@ use Rattle.whole.specs.Poly.{Divides, Greatest}
 use Rattle.whole.specs.Number.{wholes}
 use Rattle.whole.specs.Quotients.{OddPart}
 use Rattle.whole.proofs.Wholes.{wholes-ring, atomsℤ, readℤ, read-pos, ringℤ, *ℤ-cancel}
-use Rattle.whole.proofs.Divisor.{divides-self, divides-plus, divides-multiple, divides-trans, divides-le, common-two, greatest-says, greatest-is, division-common}
+use Rattle.whole.proofs.Divisor.{divides-self, divides-plus, divides-multiple, divides-trans, divides-le, common-two, greatest-says, greatest-is, division-common, divides-none}
 
 -- ---- the zeros at a number's end
 -- r is odd, and n is r with t zeros behind it, where t is below k
@@ -197,3 +198,6 @@ shared-powers i j {g} {x} {y} o l h = subst (λ (n : ℕ). Shared (g * 2 ^ i) (x
 
     split : y * 2 ^ (j - i) * 2 ^ i ≡ y * 2 ^ j
     split = mul-assoc y (2 ^ (j - i)) (2 ^ i) ∙ ap (λ (n : ℕ). y * n) (sym (pow-add 2 (j - i) i) ∙ ap (λ (n : ℕ). 2 ^ n) (omega arith))
+
+pub with-zero : {x y : ℕ} → y ≡ 0 → Shared x x y
+with-zero e d = (λ h. (h, subst (λ (n : ℕ). Divides wholes d (pos n)) (sym e) (divides-none wholes-ring d)), λ h. h .0)

@@ -17,3 +17,7 @@ told-once P true true h k = refl
 told-once P true false h k = absurd (k h)
 told-once P false true h k = absurd (h k)
 told-once P false false h k = refl
+
+pub told-map : {P Q : Type 0} → (P → Q) → (Q → P) → (r : Bool) → Tells P r → Tells Q r
+told-map there back false h = λ q. h (back q)
+told-map there back true h = there h

@@ -156,11 +156,14 @@ fn common(a: u64, b: u64) -> u64
     if i < j { g << i } else { g << j }
 }
 
-// The greatest common divisor of two numbers.
-pub fn gcd(a: i64, b: i64) -> u64
-    ensures { λ g. ⌜ Greatest wholes (a ∷ b ∷ []) (pos g) ⌝ }
+// The same, where b is mostly much smaller: one remainder first, which is often 0.
+fn common_with(a: u64, b: u64) -> u64
+    ensures { λ g. ⌜ Greatest wholes (pos a ∷ pos b ∷ []) (pos g) ⌝ }
 {
-    common(size(a), size(b))
+    if b == 0 {
+        return a;
+    }
+    common(a % b, b)
 }
 
 // The greatest common divisor of a list, 0 where there is none but zeros. At 1 the rest cannot matter.
@@ -173,7 +176,7 @@ pub fn gcd_all(numbers: &[i64]) -> u64
         if g == 1 {
             return 1;
         }
-        g = common(size(numbers[i]), g);
+        g = common_with(size(numbers[i]), g);
         i += 1;
     }
     g

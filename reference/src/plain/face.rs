@@ -29,6 +29,18 @@ pub unsafe extern "C" fn plain_recognise_quick(
 /// # Safety
 /// As above.
 #[no_mangle]
+pub unsafe extern "C" fn plain_recognise_by_legs(
+    p: *const i64,
+    n: usize,
+    out: *mut i64,
+    room: usize,
+) -> i64 {
+    crate::recognise_by_legs(from_raw_parts(p, n), from_raw_parts_mut(out, room))
+}
+
+/// # Safety
+/// As above.
+#[no_mangle]
 pub unsafe extern "C" fn plain_joins(
     ax: i64,
     ay: i64,

@@ -3,6 +3,7 @@
 
 mod face;
 mod joins;
+mod legs;
 mod number;
 mod preimage;
 mod recognise;
@@ -33,16 +34,34 @@ pub fn recognise<const QUICK: bool>(p: &[i64], out: &mut [i64]) -> i64 {
     let Some(verdict) = recognise::verdict::<QUICK>(p) else {
         return refused(out, LENGTH);
     };
+    told(&verdict, out)
+}
+
+/// The same by the rules on legs.
+pub fn recognise_by_legs(p: &[i64], out: &mut [i64]) -> i64 {
+    match legs::verdict(p) {
+        Ok(verdict) => told(&verdict, out),
+        Err(number) => refused(out, number),
+    }
+}
+
+/// The verdict's numbers in the lent area, and zeros behind them. Mostly none are left, which saves a call.
+#[inline]
+fn told(verdict: &Verdict, out: &mut [i64]) -> i64 {
     let Some((answer, rest)) = out.split_first_chunk_mut::<15>() else {
         return refused(out, ROOM);
     };
-    rest.fill(0);
-    *answer = numbers(&verdict);
+    if !rest.is_empty() {
+        rest.fill(0);
+    }
+    write(verdict, answer);
     15
 }
 
-fn numbers(verdict: &Verdict) -> [i64; 15] {
-    let mut answer = [0; 15];
+/// Into the area at once, which is cheaper than by numbers laid down in between.
+#[inline]
+fn write(verdict: &Verdict, answer: &mut [i64; 15]) {
+    *answer = [0; 15];
     let (number, square, pre) = match verdict {
         Verdict::Still => (0, None, None),
         Verdict::No => (1, None, None),
@@ -60,7 +79,6 @@ fn numbers(verdict: &Verdict) -> [i64; 15] {
             (answer[7 + 2 * k], answer[8 + 2 * k]) = (x.re, x.im);
         }
     }
-    answer
 }
 
 /// The triples between the legs a and z over a travel, and their count.

@@ -43,9 +43,21 @@ impl Pair {
     }
 
     /// Both parts divided by d, which must leave nothing over.
+    #[inline]
     pub fn exact(self, d: i64) -> Option<Pair> {
         let whole = self.re % d == 0 && self.im % d == 0;
         whole.then(|| pair(self.re / d, self.im / d))
+    }
+
+    /// The quotient by a pair that divides it.
+    pub fn quotient(self, d: Pair) -> Pair {
+        let (above, n) = (self.over(d), d.norm());
+        pair(above.re / n, above.im / n)
+    }
+
+    /// The product of the lengths and the sine between them.
+    pub fn cross(self, other: Pair) -> i64 {
+        self.re * other.im - self.im * other.re
     }
 
     /// The root whose first part that isn't zero is positive, for a pair that lies n from 0:

@@ -69,7 +69,8 @@ fn try_root<const K: usize>(
 }
 
 /// The signs of the document: the first part of κ, and of w's highest coefficient, is positive.
-fn with_signs(mut kappa: Pair, mut w: [Pair; 3], high: usize) -> Preimage {
+#[inline]
+pub fn with_signs(mut kappa: Pair, mut w: [Pair; 3], high: usize) -> Preimage {
     if kappa.leads_negative() {
         kappa = kappa.times(-1);
         w = w.map(Pair::turned);

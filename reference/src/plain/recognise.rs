@@ -39,7 +39,7 @@ fn verdict_by<const K: usize, const QUICK: bool>(
     if QUICK && root(d[0].norm() as u64 * d[K - 1].norm() as u64).is_none() {
         return Verdict::No;
     }
-    verdict_on(powers(d))
+    verdict_on(powers(d), verdict_on_full)
 }
 
 pub fn in_range(p: &[i64]) -> bool {
@@ -47,15 +47,15 @@ pub fn in_range(p: &[i64]) -> bool {
         .fold(true, |all, &x| all & within(x, COORDINATE_LIMIT))
 }
 
-fn legs<const K: usize>(p: &[i64]) -> [Pair; K] {
+pub fn legs<const K: usize>(p: &[i64]) -> [Pair; K] {
     std::array::from_fn(|k| pair(p[2 * k + 2] - p[2 * k], p[2 * k + 3] - p[2 * k + 1]))
 }
 
-fn cubic_powers([d0, d1, d2]: [Pair; 3]) -> [Pair; 3] {
+pub fn cubic_powers([d0, d1, d2]: [Pair; 3]) -> [Pair; 3] {
     [d0, (d1 - d0).times(2), d2 - d1.times(2) + d0]
 }
 
-fn quintic_powers([d0, d1, d2, d3, d4]: [Pair; 5]) -> [Pair; 5] {
+pub fn quintic_powers([d0, d1, d2, d3, d4]: [Pair; 5]) -> [Pair; 5] {
     [
         d0,
         (d1 - d0).times(4),
@@ -65,16 +65,16 @@ fn quintic_powers([d0, d1, d2, d3, d4]: [Pair; 5]) -> [Pair; 5] {
     ]
 }
 
-/// The verdict on D by its K powers.
-fn verdict_on<const K: usize>(d: [Pair; K]) -> Verdict {
+/// The verdict on D by its K powers; `full` gives it where the highest power isn't zero.
+pub fn verdict_on<const K: usize>(d: [Pair; K], full: impl Fn(&[Pair; K]) -> Verdict) -> Verdict {
     match d.iter().rposition(|&x| x != Pair::default()) {
         None => Verdict::Still,
-        Some(top) if top == K - 1 => verdict_on_full(&d),
-        Some(top) => verdict_on_moved(d, K - 1 - top),
+        Some(top) if top == K - 1 => full(&d),
+        Some(top) => verdict_on_moved(d, K - 1 - top, full),
     }
 }
 
-/// The same where the highest power isn't zero.
+/// The verdict where the highest power isn't zero.
 fn verdict_on_full<const K: usize>(d: &[Pair; K]) -> Verdict {
     let Some(square) = speed(d) else {
         return Verdict::No;
@@ -87,9 +87,13 @@ fn verdict_on_full<const K: usize>(d: &[Pair; K]) -> Verdict {
 
 /// The same by t^up·D, whose highest power isn't zero: q and w move up with it, and are moved back. Where
 /// `up` is odd, so is the degree of D, which then has no pre-image.
-fn verdict_on_moved<const K: usize>(mut d: [Pair; K], up: usize) -> Verdict {
+fn verdict_on_moved<const K: usize>(
+    mut d: [Pair; K],
+    up: usize,
+    full: impl Fn(&[Pair; K]) -> Verdict,
+) -> Verdict {
     d.rotate_right(up);
-    let mut verdict = verdict_on_full(&d);
+    let mut verdict = full(&d);
     if let Verdict::Ph(square) | Verdict::Pre(square, _) = &mut verdict {
         square.q[..K].rotate_left(up);
     }
@@ -103,8 +107,10 @@ fn verdict_on_moved<const K: usize>(mut d: [Pair; K], up: usize) -> Verdict {
     }
 }
 
-/// c and q where N is c·q²: c is N's common divisor, and q the root of N/c from the top down.
-fn speed<const K: usize>(d: &[Pair; K]) -> Option<Square> {
+/// c and q where N is c·q²: c is N's common divisor, and q the root of N/c from the top down. As a call of its own it
+/// would cost a tenth more.
+#[inline(always)]
+pub fn speed<const K: usize>(d: &[Pair; K]) -> Option<Square> {
     let mut n = norm_polynomial(d);
     let c = content(&n[..2 * K - 1]);
     if c != 1 {
@@ -126,7 +132,7 @@ fn speed<const K: usize>(d: &[Pair; K]) -> Option<Square> {
 }
 
 /// N = |D|².
-fn norm_polynomial<const K: usize>(d: &[Pair; K]) -> [i64; 9] {
+pub fn norm_polynomial<const K: usize>(d: &[Pair; K]) -> [i64; 9] {
     let mut n = [0; 9];
     for j in 0..K {
         n[2 * j] += d[j].norm();

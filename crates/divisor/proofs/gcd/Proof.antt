@@ -3,6 +3,7 @@ use mathlib.Core.Path.{_≡_, sym, ap, _∙_, subst}
 use mathlib.Core.Logic.{_≢_, _↔_, Iff·rfl, Iff·symm, Iff·trans}
 use Prim.Native.Nat.{_^_}
 use borrow.Author.Needs.{needs}
+use lib.Dec.{lit≤}
 use lib.IntN.{natAbs}
 use mir.Facts.{sfits-lit}
 use mir.Syntax.{w64}
@@ -13,6 +14,7 @@ use Rattle.whole.proofs.Divisor.{divides-none, common-two, greatest-is, divisio
 use Rattle.whole.proofs.Machine.{same-bits}
 use Rattle.pair.specs.declared.Pair.{Pair}
 use Rattle.pair.specs.Pairs.{pairs, norm, PartsWithin}
+use Rattle.pair.proofs.Parts.{wider}
 use Rattle.pair.proofs.Laws.{pairs-ring, norm-zero}
 use Rattle.divisor.proofs.Division.{rest-sum, rest-within, rest-less}
 use Rattle.divisor.proofs.gcd.Statement.{statement}
@@ -22,7 +24,7 @@ abbrev Both : Pair → Pair → Pair → Type 0
 Both d x y = Divides pairs d x × Divides pairs d y
 
 abbrev Inv-loop : tie.InvT-loop
-Inv-loop a b x y = PartsWithin (2 ^ 30) x × PartsWithin (2 ^ 30) y × ((d : Pair) → Both d x y ↔ Both d a b)
+Inv-loop a b x y = PartsWithin (2 ^ 20) x × PartsWithin (2 ^ 20) y × ((d : Pair) → Both d x y ↔ Both d a b)
 
 abbrev μ-loop : tie.MeasureT-loop
 μ-loop a b x y = natAbs (norm y)
@@ -44,7 +46,7 @@ loop-holds : tie.Need-loop-holds Inv-loop μ-loop
 loop-holds c = (search needs, search needs, λ d. Iff·rfl)
 
 norm-requires : tie.Need-norm-requires Inv-loop μ-loop
-norm-requires c κs = c .loop .inv .1
+norm-requires c κs = wider (lit≤ tt) (c .loop .inv .1)
 
 some : (c : tie.Then2 Inv-loop μ-loop) → c .before .before .loop .y ≢ pairs .none
 some c e = c .if2 .taken (ap (ofZ w64) (c .before .norm .ensures ∙ ap norm e))

@@ -1,21 +1,23 @@
 -- `divisor::nearest` meets its contract: what the calls hand on are the parts of a conj(b), and |b|².
 use mathlib.Core.Path.{_≡_, ap, _∙_, subst₂}
 use borrow.Author.Needs.{needs}
+use lib.Dec.{lit≤}
 use mir.Syntax.{w64}
 use mir.Val.{toZ, ofZ}
 use mir.ValLaws.{toZ-ofZ}
 use Rattle.whole.specs.Quotients.{Nearest}
 use Rattle.pair.specs.declared.Pair.{Pair}
 use Rattle.pair.specs.Pairs.{times, conjugate, norm}
+use Rattle.pair.proofs.Parts.{wider}
 use Rattle.pair.proofs.Laws.{norm-some}
 use Rattle.divisor.proofs.nearest.Statement.{statement}
 use Rattle.divisor.proofs.nearest.Tie as tie
 
 numerator-requires : tie.Need-numerator-requires
-numerator-requires c κs = search needs
+numerator-requires c κs = (wider (lit≤ tt) (c .pre .0), c .pre .1)
 
 norm-requires : tie.Need-norm-requires
-norm-requires c κs = search needs
+norm-requires c κs = wider (lit≤ tt) (c .before .pre .1)
 
 module _ (c : tie.After-struct-told2) where
   abbrev s : tie.Start

@@ -1,6 +1,7 @@
 -- `divisor::quotient` meets its contract: b divides a just where |b|² divides both parts of a conj(b).
 use mathlib.Core.Path.{_≡_, ap, _∙_, subst}
 use borrow.Author.Needs.{needs}
+use lib.Dec.{lit≤}
 use lib.IntN.{ℤ}
 use mir.Syntax.{w64}
 use mir.Val.{toZ, ofZ}
@@ -9,6 +10,7 @@ use Rattle.whole.specs.Quotients.{Divisible, IsQuotient}
 use Rattle.whole.proofs.Linear.{linear}
 use Rattle.pair.specs.declared.Pair.{Pair}
 use Rattle.pair.specs.Pairs.{pair, times, conjugate, norm}
+use Rattle.pair.proofs.Parts.{wider}
 use Rattle.pair.proofs.Laws.{norm-some}
 use Rattle.divisor.proofs.Division.{divides-over, over-divides}
 use Rattle.divisor.proofs.quotient.Statement.{statement}
@@ -18,7 +20,7 @@ numerator-requires : tie.Need-numerator-requires
 numerator-requires c κs = search needs
 
 norm-requires : tie.Need-norm-requires
-norm-requires c κs = search needs
+norm-requires c κs = wider (lit≤ tt) (c .before .pre .1)
 
 module _ (c : tie.After-struct-told2) where
   abbrev s : tie.Start

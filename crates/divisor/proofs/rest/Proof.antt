@@ -12,14 +12,14 @@ use Rattle.divisor.proofs.rest.Tie as tie
 nearest-requires : tie.Need-nearest-requires
 nearest-requires c κs = search needs
 
-small : (c : tie.After-nearest) → PartsWithin (2 ^ 30) (c .nearest .result)
+small : (c : tie.After-nearest) → PartsWithin (2 ^ 20) (c .nearest .result)
 small c = let h = c .before .pre in nearest-within (h .0) (h .2) (c .nearest .ensures)
 
 product-requires : tie.Need-product-requires
-product-requires c κs = (small c, c .before .pre .1)
+product-requires c κs = (wider (lit≤ tt) (small c), wider (lit≤ tt) (c .before .pre .1))
 
 difference-requires : tie.Need-difference-requires
-difference-requires c κs = let h = c .before .before .pre in (wider {B = 2 ^ 30} (lit≤ tt) (search needs), rw (c .product .ensures) (times-within (small (c .before)) (h .1)))
+difference-requires c κs = let h = c .before .before .pre in (wider (lit≤ tt) (h .0), rw (c .product .ensures) (wider (lit≤ tt) (times-within (small (c .before)) (h .1))))
 
 returns : tie.Need-returns
 returns c =

@@ -1,5 +1,7 @@
--- `root::quartic_root` meets its contract. Where there is a root, its lead is that of the candidate, up to the sign, so the candidate is a root too.
+-- `root::quartic_root` meets its contract. Where there is a root, its lead is s, up to the sign, so the search finds it.
 use mathlib.Core.Path.{_≡_, sym, ap, _∙_, subst}
+use mathlib.Core.List.{List}
+use mathlib.Core.Logic.{_≢_}
 use Prim.Native.Nat.{ℕ, zero, suc, _*_, _≤_, _<_}
 use native.Mathlib.Decide.{decLt}
 use native.Mathlib.Nat.{mul-le-mul}
@@ -12,7 +14,7 @@ use mir.Syntax.{w64}
 use mir.Val.{SFits, toZ}
 use mir.ValLaws.{toZ-ofZ, toZ-pos}
 use Rattle.whole.specs.Number.{wholes, Tells}
-use Rattle.whole.specs.Poly.{at}
+use Rattle.whole.specs.Poly.{at, Same, square}
 use Rattle.whole.specs.Roots.{IsRoot}
 use Rattle.whole.proofs.Bound.{fits-within}
 use Rattle.whole.proofs.Integers.{abs-negative, abs-times}
@@ -20,14 +22,15 @@ use Rattle.whole.proofs.Linear.{linear}
 use Rattle.whole.proofs.Machine.{cast-asks}
 use Rattle.whole.proofs.Order.{nonneg-is, nonneg-square}
 use Rattle.whole.proofs.Wholes.{wholes-ring}
+use Rattle.poly.proofs.Lists.{square-same}
 use Rattle.poly.proofs.Roots.{root-lead}
 use Rattle.poly.proofs.Wholes.{wholes-domain, whole-zero?}
 use Rattle.root.specs.declared.Nine.{Nine}
 use Rattle.root.specs.declared.Quartic.{Quartic}
-use Rattle.root.specs.Search.{Candidate}
-use Rattle.root.specs.Roots.{nine, quartic, Small, Positive}
-use Rattle.root.proofs.Candidates.{candidate-decides, candidate-lead}
-use Rattle.root.proofs.Downward.{quartic-above}
+use Rattle.root.specs.Search.{Each, UpperRoot}
+use Rattle.root.specs.Roots.{nine, quartic, Small, Positive, IsSearch}
+use Rattle.root.proofs.Candidates.{same-all, root-upper, upper-lead}
+use Rattle.root.proofs.Downward.{upper-root-once}
 use Rattle.root.proofs.quartic_root.Statement.{statement}
 use Rattle.root.proofs.quartic_root.Tie as tie
 
@@ -103,46 +106,82 @@ module _ (c : tie.After-known-told) where
       by zero e = absurd (o .pre .1 .lead (sym e))
       by (suc k) e = omega linear
 
+  some-lead : pos root ≢ pos 0
+  some-lead e = let p = some in omega linear
+
   s-is : toZ w64 root ≡ pos root
   s-is = toZ-pos w64 root (omega (arith, small))
 
-cast-candidate : tie.Need-cast-candidate
-cast-candidate c = omega (linear, small c)
+cast-candidate-of : tie.Need-cast-candidate-of
+cast-candidate-of c = omega (linear, small c)
 
-candidate-requires : tie.Need-candidate-requires
-candidate-requires c κs = rw (s-is c) (o c .pre .0, record { size = small c }, λ e. let p = some c in omega linear)
+candidate-of-requires : tie.Need-candidate-of-requires
+candidate-of-requires c κs = rw (s-is c) (o c .pre .0, record { size = small c }, some-lead c, lead c)
+
+enum-known-q : tie.Need-enum-known-q
+enum-known-q c = search needs
+
+enum-told-2 : tie.Need-enum-told-2
+enum-told-2 c = search needs
 
 -- what was found below it
-module _ (c : tie.After-candidate) where
-  abbrev q : Quartic
-  q = c .candidate .result
+module _ (c : tie.After-candidate-of) where
+  abbrev M : List ℤ
+  M = nine (m (c .before))
 
-  found : Candidate wholes Small (nine (m (c .before))) 4 (pos (root (c .before))) (quartic q)
-  found = rw (s-is (c .before)) at (c .candidate .ensures)
+  abbrev s : ℤ
+  s = pos (root (c .before))
 
-square-requires : tie.Need-square-requires
-square-requires c κs = c .candidate .ensures .small
+  searched : IsSearch M s (c .candidate-of .result)
+  searched = rw (s-is (c .before)) at (c .candidate-of .ensures)
 
-same-requires : tie.Need-same-requires
-same-requires c κs = search needs
+  -- of a root and its negative one has s at the fourth power
+  signed : (x : List ℤ) → Each wholes Small x → Same wholes (square wholes x) M
+      → (y : List ℤ) × UpperRoot wholes Small M 4 s y × Same wholes (square wholes y) M
+  signed = root-upper wholes-ring wholes-domain whole-zero? Small flipped 4 (o (c .before) .pre .1) (lead (c .before))
 
 returns-3 : tie.Need-returns-3
-returns-3 c =
+returns-3 c x b h =
+    let p = c .before .before in
+    let (y, u, e) = signed p x b h in
+    subst (IsSearch (M p) (s p)) (c .enum-told2 .given .1) (searched p) y u
+
+module _ (c : tie.After-known-told2) where
+  abbrev place : tie.After-candidate-of
+  place = c .before .before .before
+
+  abbrev q : Quartic
+  q = c .before .q .given .0 .0
+
+  found : UpperRoot wholes Small (M place) 4 (s place) (quartic q)
+  found = subst (IsSearch (M place) (s place)) (c .before .q .given .1) (searched place)
+
+square-requires : tie.Need-square-requires
+square-requires c κs = found c .small
+
+same-below-requires : tie.Need-same-below-requires
+same-below-requires c κs = search needs
+
+returns-4 : tie.Need-returns-4
+returns-4 c =
+    let squared = c .before .before .square .ensures in
     let p = c .before .before .before in
-    let equal = subst (Tells _) (c .if2 .taken) (c .before .same .ensures) in
+    let equal = subst (Tells _) (c .if2 .taken) (c .before .same-below .ensures) in
     record {
-      squared = λ k. c .before .before .square .ensures k ∙ equal k;
-      lead = candidate-lead Positive (found p) (some (p .before)) (quartic-above (q p));
+      squared = same-all wholes 4 (square wholes (quartic (q p))) (M (place p)) (λ k l. squared k ∙ equal k l) (found p .squared);
+      lead = upper-lead Positive (found p) (some (place p .before));
       small = found p .small;
     }
 
-returns-4 : tie.Need-returns-4
-returns-4 c x b h =
+returns-5 : tie.Need-returns-5
+returns-5 c x b h =
+    let squared = c .before .before .square .ensures in
     let p = c .before .before .before in
-    let s = p .before in
-    subst (Tells _) (c .if2 .left) (c .before .same .ensures)
-    (λ k. sym (c .before .before .square .ensures k)
-    ∙ candidate-decides wholes-ring wholes-domain whole-zero? Small flipped 4 (o s .pre .1) (lead s) (found p) x b h k)
+    let t = place p in
+    let (y, u, e) = signed t x b h in
+    let once = upper-root-once (M t) (s t) (some-lead (t .before)) (found p) u in
+    subst (Tells _) (c .if2 .left) (c .before .same-below .ensures)
+    (λ k l. sym (squared k) ∙ square-same wholes-ring (quartic (q p)) y once k ∙ e k)
 
 pub quartic-root-spec : {M : Type 1} → statement M
 quartic-root-spec =
@@ -154,9 +193,12 @@ quartic-root-spec =
     enum-known-s
     enum-told
     returns-2
-    cast-candidate
-    candidate-requires
-    square-requires
-    same-requires
+    cast-candidate-of
+    candidate-of-requires
+    enum-known-q
+    enum-told-2
     returns-3
-    returns-4)
+    square-requires
+    same-below-requires
+    returns-4
+    returns-5)

@@ -1,76 +1,120 @@
--- `verdict::decide` meets its contract: D by its highest power and its factors.
+-- `decide` meets its contract: by the first leg, by stillness, by a generator, or by what is left.
 use mathlib.Core.Path.{sym, subst}
 use mathlib.Core.List.{List, []}
-use Prim.Native.Nat.{ℕ, _≤_}
 use borrow.Author.Needs.{needs}
-use Rattle.whole.specs.Poly.{Same}
-use Rattle.poly.specs.Terms.{Top}
-use Rattle.poly.proofs.Top.{top-some}
+use Rattle.whole.specs.Number.{Tells}
+use Rattle.whole.specs.Poly.{Same, scaled, square}
+use Rattle.whole.proofs.Flags.{untold}
 use Rattle.pair.specs.declared.Pair.{Pair}
 use Rattle.pair.specs.Pairs.{pairs}
-use Rattle.root.specs.Pairs.{five}
-use Rattle.verdict.specs.Verdicts.{Holds}
-use Rattle.verdict.specs.Steps.{IsHighest, OfCurve, unfactored}
-use Rattle.verdict.proofs.Known.{holds-same, pairs-slight, factors-known}
+use Rattle.curve.specs.Curves.{powerForm}
+use Rattle.curve.specs.Steps.{legsOf}
+use Rattle.curve.proofs.PowerForms.{powerForm-zero}
+use Rattle.verdict.specs.declared.rules.Generator.{Generator}
+use Rattle.verdict.specs.Verdicts.{quadratic, Still}
+use Rattle.verdict.specs.Steps.{Generates, IsGeneration, OfCurve}
+use Rattle.verdict.proofs.Known.{of-legs, legs-small, holds-same, generators-small, factor-small}
+use Rattle.verdict.proofs.Decided.{first-refused}
+use Rattle.verdict.proofs.Multiples.{generated-some, not-squared-moves}
 use Rattle.verdict.proofs.decide.Statement.{statement}
 use Rattle.verdict.proofs.decide.Tie as tie
 
-to-pairs-requires : tie.Need-to-pairs-requires
-to-pairs-requires c κs = search needs
+module _ (s : tie.Start) where
+  abbrev ds : List Pair
+  ds = legsOf (s .args .legs)
 
-degree-requires : tie.Need-degree-requires
-degree-requires c κs = search needs
+  abbrev D : List Pair
+  D = powerForm ds
 
-enum-known-l : tie.Need-enum-known-l
-enum-known-l c = search needs
+first-end-requires : tie.Need-first-end-requires
+first-end-requires c κs = legs-small (ds c) (c .pre)
+
+returns : tie.Need-returns
+returns c =
+    let s = c .before .before in
+    let none = first-refused (s .args .legs) (untold (c .before .first-end .result) (c .before .first-end .ensures) (c .if1 .taken)) in
+    (not-squared-moves (D s) none, none)
+
+is-still-requires : tie.Need-is-still-requires
+is-still-requires c κs = search needs
+
+returns-2 : tie.Need-returns-2
+returns-2 c =
+    let s = c .before .before .before .before in
+    powerForm-zero (ds s) .1 (subst (Tells (Same pairs (ds s) [])) (c .if2 .taken) (c .before .is-still .ensures))
+
+-- ---- a curve that moves
+module _ (c : tie.Else2) where
+  abbrev o : tie.Start
+  o = c .before .before .before .before
+
+  moves : Still (D o) → ⊥
+  moves z = subst (Tells (Same pairs (ds o) [])) (c .if2 .left) (c .before .is-still .ensures) (powerForm-zero (ds o) .0 z)
+
+  of-curve : OfCurve (D o)
+  of-curve = of-legs (ds o) (o .pre)
+
+generator-of-requires : tie.Need-generator-of-requires
+generator-of-requires c κs = legs-small (ds (o c)) (o c .pre)
+
+enum-known-s : tie.Need-enum-known-s
+enum-known-s c = search needs
 
 enum-told : tie.Need-enum-told
 enum-told c = search needs
 
-returns : tie.Need-returns
-returns c =
-    let t = c .before .before .before .to-pairs in
-    subst (λ (E : List Pair). Same pairs E []) (t .ensures) (subst (IsHighest (five (t .result))) (c .enum-told .given .1) (c .before .before .degree .ensures))
-
--- ---- with the highest power at hand
-module _ (c : tie.After-known-told) where
-  abbrev highest : tie.After-degree
-  highest = c .before .before .before
-
-  abbrev D : List Pair
-  D = five (highest .before .to-pairs .result)
-
-  abbrev l : ℕ
-  l = c .before .l .given .0 .0
-
-  of-curve : OfCurve D
-  of-curve = subst OfCurve (sym (highest .before .to-pairs .ensures)) (highest .before .before .pre)
-
-  high : Top pairs D l × (l ≤ 4)
-  high = subst (IsHighest D) (c .before .l .given .1) (highest .degree .ensures)
-
-factored-requires : tie.Need-factored-requires
-factored-requires c κs = (pairs-slight (D c) (of-curve c), top-some (high c .0))
-
-judged-requires : tie.Need-judged-requires
-judged-requires c κs = let t = c .before in factors-known (D t) (c .factored .result) (l t) (of-curve t) (high t .0) (high t .1) (c .factored .ensures)
-
-returns-2 : tie.Need-returns-2
-returns-2 c =
-    let d = c .before .factored in
+unmade-requires : tie.Need-unmade-requires
+unmade-requires c κs =
     let t = c .before .before in
-    subst (λ (E : List Pair). Holds E (c .judged .result)) (highest t .before .to-pairs .ensures)
-    (holds-same (unfactored (d .result)) (D t) (d .ensures .divided .multiple) (c .judged .result) (c .judged .ensures))
+    let s = o (t .before) in
+    (s .pre, subst (IsGeneration (D s)) (c .enum-told .given .1) (t .generator-of .ensures))
+
+returns-3 : tie.Need-returns-3
+returns-3 c = c .unmade .ensures
+
+-- ---- with a generator
+module _ (c : tie.After-w) where
+  abbrev t : tie.After-generator-of
+  t = c .before .before .before .before .before
+
+  abbrev e : tie.Else2
+  e = t .before
+
+  abbrev found : Generator
+  found = c .before .before .before .s .given .0 .0
+
+  is : Generates (D (o e)) found
+  is = subst (IsGeneration (D (o e))) (c .before .before .before .s .given .1) (t .generator-of .ensures)
+
+generated-requires : tie.Need-generated-requires
+generated-requires c κs =
+    let g = is c in
+    let d = D (o (e c)) in
+    let w = quadratic (found c .w) in (
+      factor-small d (of-curve (e c)) (found c .k) w (moves (e c)) (g .generated) (g .coprime),
+      generated-some d (found c .k) w (g .generated) (moves (e c)),
+      generators-small d (of-curve (e c)) (moves (e c)) (found c .k) w (g .generated),
+      g .coprime,
+    )
+
+returns-4 : tie.Need-returns-4
+returns-4 c =
+    let u = c .before in
+    let s = found u in
+    holds-same (scaled pairs (s .k) (square pairs (quadratic (s .w)))) (D (o (e u))) (λ k. sym (is u .generated k)) (c .generated .result) (c .generated .ensures)
 
 pub decide-spec : {M : Type 1} → statement M
 decide-spec =
     tie.close
     (tie.spec
-    to-pairs-requires
-    degree-requires
-    enum-known-l
-    enum-told
+    first-end-requires
     returns
-    factored-requires
-    judged-requires
-    returns-2)
+    is-still-requires
+    returns-2
+    generator-of-requires
+    enum-known-s
+    enum-told
+    unmade-requires
+    returns-3
+    generated-requires
+    returns-4)

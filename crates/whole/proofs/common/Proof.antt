@@ -4,17 +4,9 @@ use mathlib.Core.Logic.{_≢_}
 use Prim.Native.Nat.{ℕ, _*_, _/_, _%_, _^_, _≤_, _<_}
 use native.Mathlib.Nat.{mod-eq-of-lt, lt-of-le-of-lt}
 use native.Mathlib.Omega.{arith}
-use lib.IntN.{pos}
-use Rattle.whole.specs.Poly.{Divides}
-use Rattle.whole.specs.Number.{wholes}
-use Rattle.whole.proofs.Wholes.{wholes-ring}
-use Rattle.whole.proofs.Divisor.{divides-none}
-use Rattle.whole.proofs.Evens.{Zeros, zeros, zeros-end, Shared, shared-greatest, greatest-shared, shared-turned, shared-le, shared-powers}
+use Rattle.whole.proofs.Evens.{Zeros, zeros, zeros-end, Shared, shared-greatest, greatest-shared, shared-turned, shared-le, shared-powers, with-zero}
 use Rattle.whole.proofs.common.Statement.{statement}
 use Rattle.whole.proofs.common.Tie as tie
-
-with-zero : {x y : ℕ} → y ≡ 0 → Shared x x y
-with-zero e d = (λ h. (h, subst (λ (n : ℕ). Divides wholes d (pos n)) (sym e) (divides-none wholes-ring d)), λ h. h .0)
 
 shifted-back : {a b g : ℕ} → a ≢ 0 → a < 2 ^ 64 → Zeros a → Zeros b → zeros a ≤ zeros b → Shared g (a / 2 ^ zeros a) (b / 2 ^ zeros b)
     → Shared (g * 2 ^ zeros a % 2 ^ 64) a b

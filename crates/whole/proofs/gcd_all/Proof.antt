@@ -73,8 +73,8 @@ shared-slice-copy-out-size c = omega arith
 size-requires : tie.Need-size-requires Inv-loop μ-loop
 size-requires c κs = search needs
 
-common-requires : tie.Need-common-requires Inv-loop μ-loop
-common-requires c κs = search needs
+common-with-requires : tie.Need-common-with-requires Inv-loop μ-loop
+common-with-requires c κs = search needs
 
 add-i : tie.Need-add-i Inv-loop μ-loop
 add-i c = omega arith
@@ -88,7 +88,7 @@ loop-again c =
     let numbers = s .before .args .numbers .now in
     let x : ℤ = getD numbers (s .loop .i) (pos 0) in
     let size : c .before .size .result ≡ natAbs x = c .before .size .ensures ∙ ap natAbs (toZ-ofZ w64 x (record { sfits = c .before .before .size-arg .given })) in
-    (omega arith, more numbers (s .loop .g) (c .common .result) (s .loop .i) (omega arith) (rw size at (c .common .ensures)) (s .loop .inv .1))
+    (omega arith, more numbers (s .loop .g) (c .common-with .result) (s .loop .i) (omega arith) (rw size at (c .common-with .ensures)) (s .loop .inv .1))
 
 returns-2 : tie.Need-returns-2 Inv-loop μ-loop
 returns-2 c =
@@ -108,7 +108,7 @@ gcd-all-spec =
     mul-size
     shared-slice-copy-out-size
     size-requires
-    common-requires
+    common-with-requires
     add-i
     loop-less
     loop-again

@@ -1,55 +1,25 @@
--- `drawing::cubic_legs` meets its contract, part by part.
-use mathlib.Core.Path.{_≡_, sym, subst₂}
-use mathlib.Core.List.{List}
-use lib.IntN.{_-ℤ_}
-use Rattle.whole.proofs.Bound.{read-back}
+-- `drawing::cubic_legs` meets its contract: leg by leg.
+use mathlib.Core.Path.{_≡_, refl}
+use mathlib.Core.List.{List, [], _∷_}
+use lib.Dec.{lit≤}
 use Rattle.pair.specs.declared.Pair.{Pair}
-use Rattle.root.specs.declared.Quartic.{Quartic}
-use Rattle.curve.specs.declared.Curve.the-variants.{Cubic}
-use Rattle.curve.specs.Curves.{pointsOf}
-use Rattle.curve.specs.Steps.{cubicPart, Draws}
-use Rattle.curve.proofs.Differences.{cubic-drawn}
-use Rattle.curve.proofs.Points.{reals-within, imaginaries-within}
+use Rattle.pair.proofs.Parts.{wider}
+use Rattle.curve.specs.Curves.{differences}
 use Rattle.curve.proofs.drawing.cubic_legs.Statement.{statement}
 use Rattle.curve.proofs.drawing.cubic_legs.Tie as tie
 
--- the start of the function, from where the points are at hand
-abbrev start : tie.After-p3 → tie.Start
-start c = c .before .before .before .before
+difference-requires : tie.Need-difference-requires
+difference-requires c κs = let r = c .before .before .before .before .pre in (wider (lit≤ tt) (r .1 .0), wider (lit≤ tt) (r .0))
 
-abbrev ps : tie.Start → List Pair
-ps o = pointsOf (Cubic (o .args .c))
+difference-requires-2 : tie.Need-difference-requires-2
+difference-requires-2 c κs = let r = c .before .before .before .before .before .pre in (wider (lit≤ tt) (r .1 .1 .0), wider (lit≤ tt) (r .1 .0))
 
-cubic-part-requires : tie.Need-cubic-part-requires
-cubic-part-requires c κs =
-    let o = start (c .before .before .before .before) in
-    let r = reals-within (ps o) (o .pre) in
-    simp (read-back tt (r .0), read-back tt (r .1 .0), read-back tt (r .1 .1 .0), read-back tt (r .1 .1 .1 .0)) r
-
--- the real parts are drawn
-module _ (c : tie.After-cubic-part) where
-  abbrev o : tie.Start
-  o = start (c .before .before .before .before .before)
-
-  reals-drawn : let k = o .args .c in c .cubic-part .result ≡ cubicPart (k .p1 .re -ℤ k .p0 .re) (k .p2 .re -ℤ k .p1 .re) (k .p3 .re -ℤ k .p2 .re)
-  reals-drawn =
-      let r = reals-within (ps o) (o .pre) in
-      simp (read-back tt (r .0), read-back tt (r .1 .0), read-back tt (r .1 .1 .0), read-back tt (r .1 .1 .1 .0)) at (c .cubic-part .ensures)
-
-cubic-part-requires-2 : tie.Need-cubic-part-requires-2
-cubic-part-requires-2 c κs =
-    let t = o (c .before .before .before .before) in
-    let r = imaginaries-within (ps t) (t .pre) in
-    simp (read-back tt (r .0), read-back tt (r .1 .0), read-back tt (r .1 .1 .0), read-back tt (r .1 .1 .1 .0)) r
+difference-requires-3 : tie.Need-difference-requires-3
+difference-requires-3 c κs = let r = c .before .before .before .before .before .before .pre in (wider (lit≤ tt) (r .1 .1 .1 .0), wider (lit≤ tt) (r .1 .1 .0))
 
 returns : tie.Need-returns
-returns c =
-    let d = c .before .before .before .before .before in
-    let k = o d .args .c in
-    let r = imaginaries-within (ps (o d)) (o d .pre) in
-    subst₂ (λ (re im : Quartic). Draws (record { re = re; im = im }) (ps (o d))) (sym (reals-drawn d))
-    (sym (simp (read-back tt (r .0), read-back tt (r .1 .0), read-back tt (r .1 .1 .0), read-back tt (r .1 .1 .1 .0)) at (c .cubic-part2 .ensures)))
-    (cubic-drawn (k .p0) (k .p1) (k .p2) (k .p3))
+unfolding differences
+returns c i = c .before .before .difference .ensures i ∷ c .before .difference2 .ensures i ∷ c .difference3 .ensures i ∷ []
 
 pub cubic-legs-spec : {M : Type 1} → statement M
-cubic-legs-spec = tie.close (tie.spec cubic-part-requires cubic-part-requires-2 returns)
+cubic-legs-spec = tie.close (tie.spec difference-requires difference-requires-2 difference-requires-3 returns)

@@ -1,37 +1,39 @@
 -- `drawing::drawn` meets its contract, by the kind of curve.
 use mathlib.Core.Path.{sym, subst}
 use borrow.Author.Needs.{needs}
-use Rattle.curve.specs.declared.Curve.{Curve}
-use Rattle.curve.specs.Curves.{pointsOf, InRange}
-use Rattle.curve.specs.Steps.{Draws}
+use Rattle.whole.specs.Poly.{Same}
+use Rattle.pair.specs.Pairs.{pairs, AllWithin}
+use Rattle.curve.specs.declared.Legs.{Legs}
+use Rattle.curve.specs.Curves.{powerForm}
+use Rattle.curve.specs.Steps.{legsOf, five}
 use Rattle.curve.proofs.drawing.drawn.Statement.{statement}
 use Rattle.curve.proofs.drawing.drawn.Tie as tie
 
-enum-known-curve : tie.Need-enum-known-curve
-enum-known-curve c = search needs
+enum-known-legs : tie.Need-enum-known-legs
+enum-known-legs c = search needs
 
-cubic-legs-requires : tie.Need-cubic-legs-requires
-cubic-legs-requires c κs = subst (λ (k : Curve). InRange (pointsOf k)) (c .before .curve .given .1) (c .before .before .before .pre)
+cubic-drawn-requires : tie.Need-cubic-drawn-requires
+cubic-drawn-requires c κs = subst (λ (l : Legs). AllWithin 40000 (legsOf l)) (c .before .legs .given .1) (c .before .before .before .pre)
 
-enum-known-curve-2 : tie.Need-enum-known-curve-2
-enum-known-curve-2 c = search needs
+enum-known-legs-2 : tie.Need-enum-known-legs-2
+enum-known-legs-2 c = search needs
 
-quintic-legs-requires : tie.Need-quintic-legs-requires
-quintic-legs-requires c κs = subst (λ (k : Curve). InRange (pointsOf k)) (c .before .curve2 .given .1) (c .before .before .before .pre)
+quintic-drawn-requires : tie.Need-quintic-drawn-requires
+quintic-drawn-requires c κs = subst (λ (l : Legs). AllWithin 40000 (legsOf l)) (c .before .legs2 .given .1) (c .before .before .before .pre)
 
 returns : tie.Need-returns
-returns c = subst (λ (k : Curve). Draws (c .cubic-legs .result) (pointsOf k)) (sym (c .before .before .curve .given .1)) (c .cubic-legs .ensures)
+returns c = subst (λ (l : Legs). Same pairs (five (c .cubic-drawn .result)) (powerForm (legsOf l))) (sym (c .before .before .legs .given .1)) (c .cubic-drawn .ensures)
 
 returns-2 : tie.Need-returns-2
-returns-2 c = subst (λ (k : Curve). Draws (c .quintic-legs .result) (pointsOf k)) (sym (c .before .before .curve2 .given .1)) (c .quintic-legs .ensures)
+returns-2 c = subst (λ (l : Legs). Same pairs (five (c .quintic-drawn .result)) (powerForm (legsOf l))) (sym (c .before .before .legs2 .given .1)) (c .quintic-drawn .ensures)
 
 pub drawn-spec : {M : Type 1} → statement M
 drawn-spec =
     tie.close
     (tie.spec
-    enum-known-curve
-    cubic-legs-requires
-    enum-known-curve-2
-    quintic-legs-requires
+    enum-known-legs
+    cubic-drawn-requires
+    enum-known-legs-2
+    quintic-drawn-requires
     returns
     returns-2)

@@ -8,18 +8,19 @@ use lib.IntN.{ℤ, pos, negℤ, _-ℤ_, +ℤ-idl}
 use lib.ListN.{length, List·getD-map}
 use mir.Syntax.{w64}
 use mir.Val.{toZ, ofZ}
-use Rattle.whole.specs.Poly.{at}
+use Rattle.whole.specs.Poly.{at, Same}
 use Rattle.whole.specs.Number.{wholes, Within}
 use Rattle.whole.proofs.Wholes.{readℤ}
 use Rattle.whole.proofs.Bound.{done, _▸_, bounds, fits, kept, within, read-back}
 use Rattle.pair.specs.declared.Pair.{Pair}
 use Rattle.pair.specs.Pairs.{pairs, PartsWithin}
+use Rattle.root.specs.declared.Quartic.{Quartic}
 use Rattle.root.specs.Roots.{quartic}
 use Rattle.curve.specs.declared.Curve.{Curve}
-use Rattle.curve.specs.declared.Legs.{Legs}
+use Rattle.curve.specs.declared.Five.{Five}
 use Rattle.curve.specs.Curves.{pointsOf, powerForm, legPolynomial}
-use Rattle.curve.specs.Steps.{polynomial}
-use Rattle.curve.proofs.LegPolynomial.{re-part, im-part, pointsOf-length}
+use Rattle.curve.specs.Steps.{five}
+use Rattle.curve.proofs.LegPolynomial.{re-part, im-part, pointsOf-length, legs-within}
 use Rattle.curve.proofs.Sizes.{legPolynomial-within}
 use Rattle.curve.proofs.Derivative.{start-within, powerForm-within}
 use Rattle.offset.specs.Steps.{six, ten, PathAsked, IsPath, RowAsked}
@@ -34,68 +35,92 @@ start-requires c κs = search needs
 legs-requires : tie.Need-legs-requires
 legs-requires c κs = search needs
 
+legs-of-requires : tie.Need-legs-of-requires
+legs-of-requires c κs = c .before .before .pre .range
+
 drawn-requires : tie.Need-drawn-requires
-drawn-requires c κs = c .before .before .pre .range
+drawn-requires c κs k =
+    let s = c .before .before .before in
+    subst (λ (l : List Pair). PartsWithin 40000 (at pairs l k)) (sym (c .legs-of .ensures)) (legs-within (pointsOf (s .args .curve)) (s .pre .range) k)
+
+reals-requires : tie.Need-reals-requires
+reals-requires c κs = search needs
+
+imaginaries-requires : tie.Need-imaginaries-requires
+imaginaries-requires c κs = search needs
 
 -- ---- what is known of D and of r, once D is drawn
-module _ (c : tie.After-drawn) where
+module _ (c : tie.After-imaginaries) where
+  abbrev drew : tie.After-drawn
+  drew = c .before .before
+
   abbrev o : tie.Start
-  o = c .before .before .before
+  o = drew .before .before .before .before
 
   abbrev ps : List Pair
   ps = pointsOf (o .args .curve)
 
-  abbrev d : Legs
-  d = c .drawn .result
+  abbrev d : Five
+  d = drew .drawn .result
+
+  abbrev re : Quartic
+  re = c .before .reals .result
+
+  abbrev im : Quartic
+  im = c .imaginaries .result
 
   short : length ps ≤ 6
   short = pointsOf-length (o .args .curve)
 
-  re-is : (k : ℕ) → at wholes (quartic (d .re)) k ≡ at pairs (legPolynomial ps) k .re
-  re-is k = List·getD-map (λ (z : Pair). z .re) (polynomial d) k (pairs .none) ∙ ap (λ (z : Pair). z .re) (c .drawn .ensures k)
+  drawn-is : Same pairs (five d) (legPolynomial ps)
+  unfolding legPolynomial
+  drawn-is k = drew .drawn .ensures k ∙ ap (λ (l : List Pair). at pairs (powerForm l) k) (drew .before .legs-of .ensures)
 
-  im-is : (k : ℕ) → at wholes (quartic (d .im)) k ≡ at pairs (legPolynomial ps) k .im
-  im-is k = List·getD-map (λ (z : Pair). z .im) (polynomial d) k (pairs .none) ∙ ap (λ (z : Pair). z .im) (c .drawn .ensures k)
+  re-is : (k : ℕ) → at wholes (quartic re) k ≡ at pairs (legPolynomial ps) k .re
+  re-is k = ap (λ (l : List ℤ). at wholes l k) (c .before .reals .ensures) ∙ List·getD-map (λ (z : Pair). z .re) (five d) k (pairs .none) ∙ ap (λ (z : Pair). z .re) (drawn-is k)
 
-  re-small : (k : ℕ) → Within 1280000 (at wholes (quartic (d .re)) k)
+  im-is : (k : ℕ) → at wholes (quartic im) k ≡ at pairs (legPolynomial ps) k .im
+  im-is k = ap (λ (l : List ℤ). at wholes l k) (c .imaginaries .ensures) ∙ List·getD-map (λ (z : Pair). z .im) (five d) k (pairs .none) ∙ ap (λ (z : Pair). z .im) (drawn-is k)
+
+  re-small : (k : ℕ) → Within 1280000 (at wholes (quartic re) k)
   re-small k = rw (re-is k) (legPolynomial-within ps (o .pre .range) short k .re)
 
-  im-small : (k : ℕ) → Within 1280000 (at wholes (quartic (d .im)) k)
+  im-small : (k : ℕ) → Within 1280000 (at wholes (quartic im) k)
   im-small k = rw (im-is k) (legPolynomial-within ps (o .pre .range) short k .im)
 
   abbrev n : ℤ
-  n = toZ w64 (ofZ w64 (c .before .legs .result))
+  n = toZ w64 (ofZ w64 (drew .before .before .legs .result))
 
   n-is : n ≡ pos (length ps - 1)
   n-is =
       let small : Within 5 (pos (length ps - 1)) = record { size = omega (arith, short) } in
-      ap (λ z. toZ w64 (ofZ w64 z)) (c .before .legs .ensures) ∙ read-back tt small
+      ap (λ z. toZ w64 (ofZ w64 z)) (drew .before .before .legs .ensures) ∙ read-back tt small
 
-  re-asked : PathAsked (quartic (d .re)) n
-  re-asked = subst (PathAsked (quartic (d .re))) (sym n-is) (path-asked re-part ps (quartic (d .re)) re-is short re-small)
+  re-asked : PathAsked (quartic re) n
+  re-asked = subst (PathAsked (quartic re)) (sym n-is) (path-asked re-part ps (quartic re) re-is short re-small)
 
-  im-asked : PathAsked (quartic (d .im)) n
-  im-asked = subst (PathAsked (quartic (d .im))) (sym n-is) (path-asked im-part ps (quartic (d .im)) im-is short im-small)
+  im-asked : PathAsked (quartic im) n
+  im-asked = subst (PathAsked (quartic im)) (sym n-is) (path-asked im-part ps (quartic im) im-is short im-small)
 
 path-requires : tie.Need-path-requires
-path-requires c κs = re-asked (c .before .before .before)
+path-requires c κs = re-asked (c .before)
 
 path-requires-2 : tie.Need-path-requires-2
-path-requires-2 c κs = im-asked (c .before .before .before .before .before)
+path-requires-2 c κs = im-asked (c .before .before .before)
 
 -- ---- what is known of r, once its paths are made
 module _ (c : tie.After-path2) where
-  abbrev g : tie.After-drawn
-  g = c .before .before .before .before .before .before
+  abbrev g : tie.After-imaginaries
+  g = c .before .before .before .before
 
-  start-small : PartsWithin 20000 (g .before .before .start .result)
-  start-small = subst (PartsWithin 20000) (sym (g .before .before .start .ensures)) (start-within (ps g) (o g .pre .range))
+  start-small : PartsWithin 20000 (drew g .before .before .before .start .result)
+  start-small = subst (PartsWithin 20000) (sym (drew g .before .before .before .start .ensures)) (start-within (ps g) (o g .pre .range))
 
-  start-re : toZ w64 (ofZ w64 (g .before .before .start .result .re)) ≡ at pairs (ps g) 0 .re
-  start-re = read-back tt (start-small .re) ∙ ap (λ (z : Pair). z .re) (g .before .before .start .ensures)
+  start-re : toZ w64 (ofZ w64 (drew g .before .before .before .start .result .re)) ≡ at pairs (ps g) 0 .re
+  start-re = read-back tt (start-small .re) ∙ ap (λ (z : Pair). z .re) (drew g .before .before .before .start .ensures)
 
-  start-im : toZ w64 (ofZ w64 (g .before .before .start .result .im)) ≡ at pairs (ps g) 0 .im
-  start-im = read-back tt (start-small .im) ∙ ap (λ (z : Pair). z .im) (g .before .before .start .ensures)
+  start-im : toZ w64 (ofZ w64 (drew g .before .before .before .start .result .im)) ≡ at pairs (ps g) 0 .im
+  start-im = read-back tt (start-small .im) ∙ ap (λ (z : Pair). z .im) (drew g .before .before .before .start .ensures)
 
   abbrev x : List ℤ
   x = six (c .before .before .path .result)
@@ -104,10 +129,10 @@ module _ (c : tie.After-path2) where
   y = six (c .path2 .result)
 
   x-is : (k : ℕ) → at wholes x k ≡ at pairs (powerForm (ps g)) k .re
-  x-is = path-is re-part (ps g) (quartic (d g .re)) (re-is g) x (subst (λ X. X) (λ i. IsPath (start-re i) (quartic (d g .re)) (n-is g i) x) (c .before .before .path .ensures))
+  x-is = path-is re-part (ps g) (quartic (re g)) (re-is g) x (subst (λ X. X) (λ i. IsPath (start-re i) (quartic (re g)) (n-is g i) x) (c .before .before .path .ensures))
 
   y-is : (k : ℕ) → at wholes y k ≡ at pairs (powerForm (ps g)) k .im
-  y-is = path-is im-part (ps g) (quartic (d g .im)) (im-is g) y (subst (λ X. X) (λ i. IsPath (start-im i) (quartic (d g .im)) (n-is g i) y) (c .path2 .ensures))
+  y-is = path-is im-part (ps g) (quartic (im g)) (im-is g) y (subst (λ X. X) (λ i. IsPath (start-im i) (quartic (im g)) (n-is g i) y) (c .path2 .ensures))
 
   abbrev h : ℤ
   h = o g .args .h
@@ -121,7 +146,7 @@ module _ (c : tie.After-path2) where
   less-small : Within 20000 (negℤ h)
   less-small = bounds (o g .pre .h-small ▸ done) (λ ρ e k. simp (e 0, readℤ) (within k _ refl))
 
-  x-asked : RowAsked (quartic (o g .args .w)) x (toZ w64 (ofZ w64 h)) (quartic (d g .im))
+  x-asked : RowAsked (quartic (o g .args .w)) x (toZ w64 (ofZ w64 h)) (quartic (im g))
   x-asked = record {
     w-small = o g .pre .w-small;
     x-small = λ k. rw (x-is k) (powerForm-within (ps g) (o g .pre .range) (short g) k .re);
@@ -129,7 +154,7 @@ module _ (c : tie.After-path2) where
     d-small = im-small g;
   }
 
-  y-asked : {z : ℤ} → Within 20000 z → RowAsked (quartic (o g .args .w)) y z (quartic (d g .re))
+  y-asked : {z : ℤ} → Within 20000 z → RowAsked (quartic (o g .args .w)) y z (quartic (re g))
   y-asked hz = record {
     w-small = o g .pre .w-small;
     x-small = λ k. rw (y-is k) (powerForm-within (ps g) (o g .pre .range) (short g) k .im);
@@ -189,14 +214,14 @@ returns c =
       w = weighted-of (curve s) (ten (s .before .extended .result)) (ten (s .weights .result)) _ (λ k. 20000000) (s .weights .ensures) (c .before .before .weighted .ensures) (s .before .extended .ensures) (w-sized s)
           (λ k. omega (arith, weight-least (curve s) k));
       x = weighted-of (curve s) (ten (s .before .before .before .row .result)) (ten (s .weights .result)) _ (rowSize 5) (s .weights .ensures) (c .before .weighted2 .ensures)
-          (coordinate re-part im-part (ps (g t)) (quartic (o (g t) .args .w)) (x t) (quartic (d (g t) .im)) (ten (s .before .before .before .row .result)) (h t) (x-is t) (im-is (g t)) (rw (h-kept t) at (s .before .before .before .row .ensures)))
+          (coordinate re-part im-part (ps (g t)) (quartic (o (g t) .args .w)) (x t) (quartic (im (g t))) (ten (s .before .before .before .row .result)) (h t) (x-is t) (im-is (g t)) (rw (h-kept t) at (s .before .before .before .row .ensures)))
           (x-sized s) (weight-size (curve s));
       y = weighted-of (curve s) (ten (s .before .before .row2 .result)) (ten (s .weights .result)) _ (rowSize 5) (s .weights .ensures) (c .weighted3 .ensures)
-          (coordinate im-part re-part (ps (g t)) (quartic (o (g t) .args .w)) (y t) (quartic (d (g t) .re)) (ten (s .before .before .row2 .result)) (negℤ (h t)) (y-is t) (re-is (g t)) (rw (less-is t) at (s .before .before .row2 .ensures)))
+          (coordinate im-part re-part (ps (g t)) (quartic (o (g t) .args .w)) (y t) (quartic (re (g t))) (ten (s .before .before .row2 .result)) (negℤ (h t)) (y-is t) (re-is (g t)) (rw (less-is t) at (s .before .before .row2 .ensures)))
           (y-sized s) (weight-size (curve s));
     }
 
 pub rows-spec : {M : Type 1} → statement M
 rows-spec =
     tie.close
-    (tie.spec start-requires legs-requires drawn-requires path-requires path-requires-2 sub-g row-requires row-requires-2 extended-requires weights-requires weighted-requires weighted-requires-2 weighted-requires-3 returns)
+    (tie.spec start-requires legs-requires legs-of-requires drawn-requires reals-requires imaginaries-requires path-requires path-requires-2 sub-g row-requires row-requires-2 extended-requires weights-requires weighted-requires weighted-requires-2 weighted-requires-3 returns)

@@ -10,8 +10,8 @@ use Rattle.poly.specs.Terms.{Above, Top}
 use Rattle.poly.proofs.Top.{length-above, above-lowered}
 use Rattle.pair.specs.Pairs.{pairs}
 use Rattle.divisor.proofs.Roots.{first-some}
-use Rattle.root.specs.declared.pairs.Quadratic.{Quadratic}
-use Rattle.root.specs.Pairs.{quadratic, LeadKept}
+use Rattle.verdict.specs.declared.Quadratic.{Quadratic}
+use Rattle.verdict.specs.Verdicts.{quadratic, LeadKept}
 use Rattle.verdict.proofs.Turned.{lead-of}
 use Rattle.verdict.proofs.preimages.lead_positive.Statement.{statement}
 use Rattle.verdict.proofs.preimages.lead_positive.Tie as tie

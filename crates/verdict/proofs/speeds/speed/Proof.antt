@@ -12,7 +12,7 @@ use Rattle.whole.proofs.Wholes.{readℤ, read-pos, atomsℤ, ringℤ}
 use Rattle.whole.proofs.Bound.{Bounded, done, _▸_, bounds, fits, kept}
 use Rattle.pair.specs.Pairs.{pair}
 use Rattle.pair.proofs.Parts.{wider}
-use Rattle.root.specs.declared.pairs.Quadratic.{Quadratic}
+use Rattle.verdict.specs.declared.Quadratic.{Quadratic}
 use Rattle.curve.specs.Curves.{squaredLength}
 use Rattle.verdict.proofs.speeds.speed.Statement.{statement}
 use Rattle.verdict.proofs.speeds.speed.Tie as tie
