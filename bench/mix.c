@@ -132,13 +132,14 @@ static void draw_curves(void) {
     }
 }
 
-/* One coordinate is one off; of five curves four had a pre-image and one was ph, as in the mix. */
+/* One coordinate of a point between the ends, which are where the rover has to be, is one off; of five curves four had a
+ * pre-image and one was ph, as in the mix. */
 static void draw_near_misses(void) {
     for (size_t k = 0; k < CURVES; k++) {
         struct curve *c = &near_misses[k];
         do {
             draw_curve(c, k % 5 < 4 ? YARD_VERDICT_PRE : YARD_VERDICT_PH);
-            c->p[draw(c->count)] += draw(2) ? 1 : -1;
+            c->p[2 + draw(c->count - 4)] += draw(2) ? 1 : -1;
             c->verdict = YARD_VERDICT_NO;
         } while (!is(c, c->verdict));
     }
