@@ -27,11 +27,14 @@ fn cross(d: Pair, e: Pair) -> i64
     x * v - y * u
 }
 
-// Whether d divides n times the square of x, by remainders.
+// Whether d divides n times the square of x, by remainders: by one, unless n x^2 might not fit.
 fn divides_square(d: u64, x: u64, n: u64) -> bool
     requires { ⌜ (d ≢ 0) × (d ≤ 3200000000) × (x ≤ 3200000000) × (n ≤ 8) ⌝ }
     ensures { λ r. ⌜ Tells (x * x * n % d ≡ 0) r ⌝ }
 {
+    if x <= 1073741824 {
+        return x * x * n % d == 0;
+    }
     (x * x % d) * n % d == 0
 }
 
