@@ -120,9 +120,9 @@ fn minus_remainder(f: &[i128], g: &[i128]) -> Vec<i128> {
     while rest.len() >= g.len() {
         let top = rest[rest.len() - 1];
         let shift = rest.len() - g.len();
-        rest.iter_mut().for_each(|x| *x *= lead * lead);
+        rest.iter_mut().for_each(|x| *x *= lead.abs());
         for (k, x) in g.iter().enumerate() {
-            rest[shift + k] -= x * top * lead;
+            rest[shift + k] -= x * top * lead.signum();
         }
         rest = trimmed(rest);
     }

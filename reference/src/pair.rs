@@ -91,6 +91,10 @@ impl Whole for Pair {
             .filter_map(|x| Some(pair(x, self.im.exact_quotient(2 * x)?)))
             .find(|root| *root * *root == self)
     }
+
+    fn is_small(self) -> bool {
+        self.re.is_small() && self.im.is_small()
+    }
 }
 
 impl fmt::Display for Pair {

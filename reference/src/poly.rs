@@ -10,6 +10,8 @@ pub trait Whole:
     fn exact_quotient(self, by: Self) -> Option<Self>;
     /// One of the square roots, where there is any.
     fn square_root(self) -> Option<Self>;
+    /// Whether every part is at most 2^40 in size.
+    fn is_small(self) -> bool;
 }
 
 impl Whole for i128 {
@@ -19,6 +21,10 @@ impl Whole for i128 {
 
     fn square_root(self) -> Option<Self> {
         self.checked_isqrt().filter(|root| root * root == self)
+    }
+
+    fn is_small(self) -> bool {
+        self.abs() <= 1 << 40
     }
 }
 
@@ -35,7 +41,8 @@ pub fn product<T: Whole>(f: &[T], g: &[T]) -> Vec<T> {
 
 /// One of the square roots of `f`, whose number of coefficients is odd, found from the lowest power up.
 /// The lowest coefficient of a root is a root of the lowest of `f`, and each next one is then forced,
-/// so where a step fails there is no root at all.
+/// so where a step fails there is no root at all. It fails at a large coefficient too: by Mignotte's
+/// bound a root of degree 4 has none above 6·√|f|, and |f| is below 2^50 for a curve in range.
 pub fn square_root<T: Whole>(f: &[T]) -> Option<Vec<T>> {
     let lowest = f.iter().position(|&x| x != T::default())?;
     if lowest % 2 == 1 {
@@ -46,7 +53,8 @@ pub fn square_root<T: Whole>(f: &[T]) -> Option<Vec<T>> {
     root[low] = f[lowest].square_root()?;
     for k in low + 1..root.len() {
         let known = product(&root, &root)[low + k];
-        root[k] = (f[low + k] - known).exact_quotient(root[low] + root[low])?;
+        let next = (f[low + k] - known).exact_quotient(root[low] + root[low])?;
+        root[k] = Some(next).filter(|x| x.is_small())?;
     }
     (product(&root, &root) == f).then_some(root)
 }

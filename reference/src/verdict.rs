@@ -178,6 +178,21 @@ mod tests {
         assert_eq!(recognise(&diagonal), expected);
     }
 
+    /// The coefficients of a would-be root stay whole and grow beyond any root's size.
+    #[test]
+    fn no_with_coefficients_that_grow() {
+        for a in [15, 791, 20_000] {
+            let up = [(0, 0), (0, a), (0, 0), (0, -a), (1, 0)].map(|(x, y)| pair(x, y));
+            let mut down = up;
+            down.reverse();
+            for (start, legs) in [(-a / 2, up), (a / 2, down)] {
+                let points = along(pair(0, start), &legs);
+                let curve = Curve::new(points).expect("6 points");
+                assert_eq!(recognise(&curve), Ok(Verdict::No));
+            }
+        }
+    }
+
     #[test]
     fn still_and_range() {
         let at = |x| recognise(&curve(&[(x, -1); 4]));
