@@ -9,6 +9,16 @@ hold_layout() {
     enough_wrong_programs
 }
 
+# Each theorem that docs/THEOREMS.md names, behind the crate and the file that it is said to be in, is there.
+hold_theorems() {
+    awk -F'`' '/^\|/ { file = ""; for (i = 2; i <= NF; i += 2) if ($i ~ /^[a-z_]+\/[A-Z]/) file = $i; else if (file != "") print file, $i }' docs/THEOREMS.md >"$room/named"
+    [ -s "$room/named" ]
+    while read -r file name; do
+        grep -Eq "^ *((abbrev )?pub )?$name( |$)" "crates/${file%/*}/proofs/${file#*/}.antt" ||
+            { echo "yard: docs/THEOREMS.md: there is no theorem $name in $file" >&2 && return 1; }
+    done <"$room/named"
+}
+
 # The expected answers are those of the second program, which its own tests hold to the document.
 hold_to_second_program() {
     cargo test --quiet --release --offline --manifest-path reference/Cargo.toml
@@ -71,6 +81,7 @@ hold_questions() {
 
 all_tests() {
     hold_layout
+    hold_theorems
     hold_to_second_program
     gate
     hold_samples

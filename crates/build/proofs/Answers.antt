@@ -13,7 +13,7 @@ use Rattle.curve.specs.Curves.{InRange}
 use Rattle.curve.specs.Promise.{out-of-range}
 use Rattle.build.specs.declared.BuildAnswer.{BuildAnswer}
 use Rattle.build.specs.declared.BuildAnswer.the-variants.{Refused}
-use Rattle.build.specs.Builds.{Source, pairsOf, Legs, points, Allowed, AllZero, NoMiddle, point-out-of-range, causes, answerOfBuilt, Built}
+use Rattle.build.specs.Promise.{Source, pairsOf, AreLegs, points, Allowed, AllZero, NoMiddle, point-out-of-range, causes, answerOfBuilt, Built}
 use Rattle.build.specs.Steps.{Ranged}
 use Rattle.build.proofs.Legs.{outside}
 
@@ -28,7 +28,7 @@ module _ (p0 : Pair) (s : Source) where
   refused-thirds a z m = (inr (λ n. n a, inr (z, inl (m, refl))), refl)
 
   -- ps are the points that the legs give
-  pub answered : Allowed p0 (pairsOf s) → (AllZero (pairsOf s) → ⊥) → (NoMiddle s → ⊥) → (ds : List Pair) → Legs s ds → (ps : List Pair) → ps ≡ points p0 ds
+  pub answered : Allowed p0 (pairsOf s) → (AllZero (pairsOf s) → ⊥) → (NoMiddle s → ⊥) → (ds : List Pair) → AreLegs s ds → (ps : List Pair) → ps ≡ points p0 ds
       → (r : BuildAnswer) → Ranged ps r → Built p0 s r
   answered a z m ds l ps e r =
       first-or-by (out-of-range ps ∷ []) (causes p0 s) (λ n f. inr (λ o. o a, inr (z, inr (m, last n f))))

@@ -7,7 +7,7 @@ use Rattle.curve.specs.declared.Curve.{Curve}
 use Rattle.curve.proofs.Points.{curve-once}
 use Rattle.build.specs.declared.BuildAnswer.{BuildAnswer}
 use Rattle.build.specs.declared.BuildAnswer.the-variants as answer
-use Rattle.build.specs.Builds.{Source, points, causes, answerOfBuilt, BuiltFrom, Built}
+use Rattle.build.specs.Promise.{Source, points, causes, answerOfBuilt, BuiltFrom, Built}
 use Rattle.build.proofs.Legs.{legs-once}
 
 answer-once : (r t : BuildAnswer) → answerOfBuilt r ≡ answerOfBuilt t → r ≡ t

@@ -10,9 +10,9 @@ use Rattle.whole.proofs.Integers.{abs-times}
 use Rattle.pair.specs.declared.Pair.{Pair}
 use Rattle.pair.specs.Pairs.{multiple, PartsWithin}
 use Rattle.pair.proofs.Parts.{times-within, plus-within, multiple-within, re-equal, im-equal}
-use Rattle.build.specs.Builds.{thrice}
+use Rattle.build.specs.Promise.{thrice, sourceReach}
 
-pub thrice-within : {w0 w1 w2 : Pair} → PartsWithin 200 w0 → PartsWithin 200 w1 → PartsWithin 200 w2 → PartsWithin 240000 (thrice w0 w1 w2)
+pub thrice-within : {w0 w1 w2 : Pair} → PartsWithin sourceReach w0 → PartsWithin sourceReach w1 → PartsWithin sourceReach w2 → PartsWithin 240000 (thrice w0 w1 w2)
 thrice-within h k l = plus-within (multiple-within 2 (times-within k k)) (times-within h l)
 
 pub third-within : {B : ℕ} {d t : Pair} → multiple (pos 3) d ≡ t → PartsWithin B t → PartsWithin B d

@@ -1,3 +1,3 @@
 -- The definitions that the contracts cite; `Steps` is for the parts of the program only.
-pub mod Builds
+pub mod Promise
 pub mod Steps

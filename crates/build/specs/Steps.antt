@@ -1,24 +1,16 @@
 -- The steps of building.
---   IsThird t q       a third of t, or that a part of t has none
 --   Next p d r        r is the point after p where the leg d has parts of at most 80,000
 --   Ranged ps r       the curve with the points ps, or RANGE where one of them is out of range
 use mathlib.Core.Path.{_≡_}
 use mathlib.Core.List.{List, [], _∷_}
 use Prim.Native.Nat.{ℕ, _+_}
-use lib.IntN.{pos}
 use Rattle.refusal.specs.Answers.{FirstOr}
 use Rattle.pair.specs.declared.Pair.{Pair}
-use Rattle.pair.specs.Pairs.{plus, multiple, PartsWithin}
-use Rattle.divisor.specs.declared.PairQuotient.{PairQuotient}
-use Rattle.divisor.specs.declared.PairQuotient.the-variants.{Whole, None}
+use Rattle.pair.specs.Pairs.{plus, PartsWithin}
 use Rattle.curve.specs.Curves.{pointsOf}
 use Rattle.curve.specs.Promise.{out-of-range}
 use Rattle.build.specs.declared.BuildAnswer.{BuildAnswer}
-use Rattle.build.specs.Builds.{NoThird, answerOfBuilt}
-
-abbrev pub IsThird : Pair → PairQuotient → Type 0
-IsThird t (Whole d) = multiple (pos 3) d ≡ t
-IsThird t None = NoThird t
+use Rattle.build.specs.Promise.{answerOfBuilt}
 
 pub record Next (p d r : Pair) : Type 0 where
   pub is : r ≡ plus p d

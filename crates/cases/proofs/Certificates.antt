@@ -11,7 +11,8 @@ use Prim.Native.Nat.{ℕ, suc}
 use lib.IntN.{ℤ, pos, _*ℤ_}
 use lib.ListN.{drop, replicate}
 use lib.Signed.{_<ℤ_}
-use Rattle.whole.specs.Poly.{Coefficients, at, scaled, square, Divides, Greatest}
+use Rattle.whole.specs.Coefficients.{Coefficients, at, Divides, Greatest}
+use Rattle.poly.specs.Polynomials.{scaled, square}
 use Rattle.whole.specs.Number.{wholes, FirstPositive}
 use Rattle.whole.proofs.Wholes.{wholes-ring}
 use Rattle.whole.proofs.Squares.{Between, between-no-square}
@@ -26,18 +27,18 @@ use Rattle.pair.proofs.Laws.{pairs-ring, norm-times, norm-some}
 use Rattle.divisor.proofs.Units.{norm-unit}
 use Rattle.divisor.proofs.Roots.{first-some}
 use Rattle.root.specs.Search.{Lead}
-use Rattle.root.specs.Roots.{quartic, LeadPositive}
-use Rattle.curve.specs.Curves.{squaredLength}
+use Rattle.root.specs.Promise.{quartic, LeadPositive}
+use Rattle.curve.specs.Curves.{normPolynomial}
 use Rattle.verdict.specs.declared.Square.{Square}
 use Rattle.verdict.specs.declared.Preimage.{Preimage}
 use Rattle.verdict.specs.Verdicts.{Squared, Generated, NotSquared, NotGenerated, Coprime, SquareOf, PreimageOf, quadratic, LeadKept}
 use Rattle.verdict.proofs.Coprime.{coprime-primitive, primitive-coprime}
 use Rattle.verdict.proofs.Multiples.{generated-squared}
 use Rattle.verdict.proofs.Norms.{generated-content}
-use Rattle.verdict.proofs.Signs.{first-top, squaredLength-lead-positive}
+use Rattle.verdict.proofs.Signs.{first-top, normPolynomial-lead-positive}
 
-pub not-squared : (D : List Pair) (x y : ℤ) → Between (value wholes x (squaredLength D) *ℤ value wholes y (squaredLength D)) → NotSquared D
-not-squared D x y b c q h s = between-no-square b (c *ℤ (value wholes x q *ℤ value wholes y q)) (values-square wholes-ring (squaredLength D) q c x y s)
+pub not-squared : (D : List Pair) (x y : ℤ) → Between (value wholes x (normPolynomial D) *ℤ value wholes y (normPolynomial D)) → NotSquared D
+not-squared D x y b c q h s = between-no-square b (c *ℤ (value wholes x q *ℤ value wholes y q)) (values-square wholes-ring (normPolynomial D) q c x y s)
 
 pub not-generated : (D : List Pair) (x y : Pair) → Between (norm (times (value pairs x D) (value pairs y D))) → NotGenerated D
 not-generated D x y b κ w g =
@@ -49,8 +50,8 @@ pub lead-at : {A : Type 0} (C : Coefficients A) {Positive : A → Type 0} {q : L
     → Lead C Positive q
 lead-at C {q} m n e h = record { power = m; positive = h; above = above-zeros C m n q e }
 
-pub square-by : {D : List Pair} {s : Square} (n k : ℕ) → squaredLength D ++ replicate n (pos 0) ≡ scaled wholes (s .c) (square wholes (quartic (s .q)))
-    → at wholes (squaredLength D) k ≡ s .c → pos 0 <ℤ s .c → LeadPositive (quartic (s .q)) → SquareOf D s
+pub square-by : {D : List Pair} {s : Square} (n k : ℕ) → normPolynomial D ++ replicate n (pos 0) ≡ scaled wholes (s .c) (square wholes (quartic (s .q)))
+    → at wholes (normPolynomial D) k ≡ s .c → pos 0 <ℤ s .c → LeadPositive (quartic (s .q)) → SquareOf D s
 square-by {D} {s} n k e c h l = record {
   positive = h;
   squared = squared;
@@ -62,11 +63,11 @@ square-by {D} {s} n k e c h l = record {
 }
   where
     squared : Squared D (s .c) (quartic (s .q))
-    squared = same-padded wholes n (squaredLength D) (scaled wholes (s .c) (square wholes (quartic (s .q)))) e
+    squared = same-padded wholes n (normPolynomial D) (scaled wholes (s .c) (square wholes (quartic (s .q)))) e
 
 pub preimage-by : {D : List Pair} {p : Preimage} (n k : ℕ) → D ++ replicate n (pairs .none) ≡ scaled pairs (p .kappa) (square pairs (quadratic (p .w)))
     → norm (at pairs (quadratic (p .w)) k) ≡ pos 1 → FirstPositive (p .kappa .re) (p .kappa .im) → LeadKept (quadratic (p .w))
-    → norm (p .kappa) ≡ p .square .c → squaredLength (quadratic (p .w)) ≡ quartic (p .square .q) → PreimageOf D p
+    → norm (p .kappa) ≡ p .square .c → normPolynomial (quadratic (p .w)) ≡ quartic (p .square .q) → PreimageOf D p
 preimage-by {D} {p} n k e u f l c q = record {
   generated = generated;
   coprime = coprime;
@@ -75,8 +76,8 @@ preimage-by {D} {p} n k e u f l c q = record {
   square-of = record {
     positive = subst (λ x. pos 0 <ℤ x) c (norm-some (p .kappa) (first-some f));
     squared = subst (λ x. Squared D x (quartic (p .square .q))) c (subst (Squared D (norm (p .kappa))) q (generated-squared D (p .kappa) w generated));
-    content = subst (Greatest wholes (squaredLength D)) c (generated-content D (p .kappa) w (first-some f) (coprime-primitive w coprime) generated);
-    lead = subst LeadPositive q (squaredLength-lead-positive (first-top l));
+    content = subst (Greatest wholes (normPolynomial D)) c (generated-content D (p .kappa) w (first-some f) (coprime-primitive w coprime) generated);
+    lead = subst LeadPositive q (normPolynomial-lead-positive (first-top l));
   };
 }
   where

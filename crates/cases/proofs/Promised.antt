@@ -15,7 +15,7 @@ use lib.ListN.{length, replicate, length-append, length-replicate}
 use Rattle.refusal.specs.Table.{Cause, First}
 use Rattle.refusal.specs.Answers.{given}
 use Rattle.refusal.proofs.Laws.{first-after}
-use Rattle.whole.specs.Poly.{scaled}
+use Rattle.poly.specs.Polynomials.{scaled}
 use Rattle.whole.specs.Number.{wholes, Within}
 use Rattle.whole.proofs.Linear.{linear}
 use Rattle.whole.proofs.Squares.{Between}
@@ -24,11 +24,12 @@ use Rattle.poly.specs.Terms.{value}
 use Rattle.pair.specs.declared.Pair.{Pair}
 use Rattle.pair.specs.Pairs.{pairs, times, norm}
 use Rattle.pair.proofs.Parts.{wider}
-use Rattle.root.specs.Roots.{quartic}
+use Rattle.root.specs.Promise.{quartic}
 use Rattle.curve.specs.declared.Curve.{Curve}
-use Rattle.curve.specs.Curves.{InRange, pointsOf, legPolynomial, squaredLength}
+use Rattle.curve.specs.Curves.{InRange, pointsOf, legPolynomial, normPolynomial}
 use Rattle.curve.specs.Promise.{out-of-range}
-use Rattle.curve.proofs.Lengths.{squaredLength-zero}
+use Rattle.curve.proofs.Norms.{normPolynomial-zero}
+use Rattle.curve.specs.Sizes.{coordinateReach}
 use Rattle.verdict.specs.declared.Square.{Square}
 use Rattle.verdict.specs.declared.Preimage.{Preimage}
 use Rattle.verdict.specs.declared.Verdict.{Verdict}
@@ -44,10 +45,10 @@ use Rattle.measure.specs.declared.LengthAnswer.the-variants as L
 use Rattle.measure.specs.declared.InflectionAnswer.the-variants as I
 use Rattle.measure.specs.Lengths.{lengthOf}
 use Rattle.measure.specs.Turns.{turningOf, Straight, CountIs}
-use Rattle.measure.specs.Promises.{Measured, Inflected}
+use Rattle.measure.specs.Promise.{Measured, Inflected}
 use Rattle.offset.specs.declared.OffsetAnswer.the-variants.{Written}
-use Rattle.offset.specs.Offsets.{offsetCurve, offsetNumbers, needs, beyond, no-root, no-room, OffsetBy}
-use Rattle.join.specs.Listing as join
+use Rattle.offset.specs.Promise.{offsetCurve, offsetNumbers, needs, beyond, no-root, no-room, OffsetBy}
+use Rattle.join.specs.Promise as join
 use Rattle.cases.specs.Rows.{Claim, SaysAll, CurveHolds, Long, JoinsHold, filled}
 use Rattle.cases.proofs.Certificates.{not-squared, not-generated}
 
@@ -56,17 +57,17 @@ abbrev pub spread : List Pair → ℕ
 spread [] = 0
 spread (p ∷ ps) = natAbs (p .re) + natAbs (p .im) + spread ps
 
-in-range : (ps : List Pair) → spread ps ≤ 20000 → InRange ps
+in-range : (ps : List Pair) → spread ps ≤ coordinateReach → InRange ps
 in-range [] h = tt
 in-range (p ∷ ps) h = (record { re = record { size = omega arith }; im = record { size = omega arith } }, in-range ps (omega arith))
 
-recognised : (ps : List Pair) (v : Verdict) → spread ps ≤ 20000 → Holds (legPolynomial ps) v → Recognised ps v
+recognised : (ps : List Pair) (v : Verdict) → spread ps ≤ coordinateReach → Holds (legPolynomial ps) v → Recognised ps v
 recognised ps v h k = recognised-by ps (in-range ps h) v k
 
 -- a curve whose N is c q² is not still: 0 would divide c
 square-moves : (D : List Pair) (s : Square) → SquareOf D s → Still D → ⊥
 square-moves D s h z =
-    let d = h .content .greatest (pos 0) (λ k. record { factor = pos 0; is = sym (squaredLength-zero D .0 z k) }) in
+    let d = h .content .greatest (pos 0) (λ k. record { factor = pos 0; is = sym (normPolynomial-zero D .0 z k) }) in
     omega (linear, h .positive, sym (zero-*ℤ (d .factor)) ∙ d .is)
 
 abbrev D : Curve → List Pair
@@ -76,8 +77,8 @@ D curve = legPolynomial (pointsOf curve)
 pub record Finds (curve : Curve) (p : Preimage) : Type 0 where
   pub found : Preimaged (pointsOf curve) (Found p)
 
-module _ {curve : Curve} {claims : List Claim} (small : spread (pointsOf curve) ≤ 20000) where
-  pub no-row : (x y : ℤ) → Between (value wholes x (squaredLength (D curve)) *ℤ value wholes y (squaredLength (D curve)))
+module _ {curve : Curve} {claims : List Claim} (small : spread (pointsOf curve) ≤ coordinateReach) where
+  pub no-row : (x y : ℤ) → Between (value wholes x (normPolynomial (D curve)) *ℤ value wholes y (normPolynomial (D curve)))
       → SaysAll curve claims → CurveHolds curve verdict.No claims
   no-row x y b f =
       let h = not-squared (D curve) x y b in
@@ -117,7 +118,7 @@ module _ {curve : Curve} {p : Preimage} (i : Finds curve p) where
   pub turned : {x : Turning} {k : ℕ} → x ≡ turningOf (p .w) → CountIs x k → (Straight x → ⊥) → Inflected curve (I.Found (record { turning = x; count = k; straight = false }))
   turned e n s = (i .found .0, record { preimage = p; is-preimage = i .found .1; has = record { turning = e; count = n; straight = s } })
 
-  pub offset : {h : ℤ} {vs : List ℤ} (m : ℕ) → p .square .c ≡ pos (m * m) → Within 20000 h
+  pub offset : {h : ℤ} {vs : List ℤ} (m : ℕ) → p .square .c ≡ pos (m * m) → Within coordinateReach h
       → offsetNumbers curve (offsetCurve (pointsOf curve) (scaled wholes (pos m) (quartic (p .square .q))) h) ≡ vs → length vs ≡ needs curve
       → (area : List ℤ) → needs curve ≤ length area → OffsetBy curve h area (filled (length area) vs) (Written (needs curve))
   offset {h} {vs} m root w e l area room = record {
@@ -135,7 +136,7 @@ module _ {curve : Curve} {p : Preimage} (i : Finds curve p) where
           inr (λ out. inside (λ r. out (r, w)), first-after (no-way (pointsOf curve)) (no-root (pointsOf curve) ∷ no-room curve (length area) ∷ []) 0 f (inr (λ n. n p m (i .found .1) root, inr (λ less. omega arith, refl))))
 
 -- ---- joins
-pub joins-row : {a z T : Pair} {ws : List join.Triple} → spread (a ∷ z ∷ T ∷ []) ≤ 20000 → 0 < spread (a ∷ []) → 0 < spread (z ∷ []) → length (join.numbers ws) ≤ 24
+pub joins-row : {a z T : Pair} {ws : List join.Triple} → spread (a ∷ z ∷ T ∷ []) ≤ coordinateReach → 0 < spread (a ∷ []) → 0 < spread (z ∷ []) → length (join.numbers ws) ≤ 24
     → join.AllJoins a z T ws → JoinsHold a z T ws
 joins-row {a} {z} {T} {ws} small first last few h = record {
   all = h;
@@ -151,5 +152,5 @@ joins-row {a} {z} {T} {ws} small first last few h = record {
     some : (p : Pair) → 0 < spread (p ∷ []) → p ≢ pairs .none
     some p l e = omega (arith, l, ap (λ t. spread (t ∷ [])) e)
 
-    range : join.InRange a z T
+    range : join.EndsInRange a z T
     range = let (i, (j, (k, e))) = in-range (a ∷ z ∷ T ∷ []) small in record { first = i; last = j; travel = wider (omega arith) k }

@@ -13,7 +13,7 @@
 --   Says, SaysAll            that a claim on a curve holds, and all of a list
 --   CurveHolds               the verdict is the one that `recognise` promises, and the claims hold
 --   JoinsHold                the triples are all joins, and `joins` promises them in every area that has the room
---   Holds, All               that a row holds, and all of a list
+--   RowHolds, All            that a row holds, and all of a list
 use mathlib.Core.Path.{_≡_}
 use mathlib.Core.Bool.{false}
 use mathlib.Core.List.{List, [], _∷_, _++_}
@@ -21,18 +21,19 @@ use Prim.Native.Nat.{ℕ, suc, _-_, _*_, _≤_}
 use lib.IntN.{ℤ, pos, _*ℤ_}
 use lib.ListN.{length, replicate}
 use Rattle.pair.specs.declared.Pair.{Pair}
+use Rattle.bernstein.specs.Powers.{differences}
 use Rattle.curve.specs.declared.Curve.{Curve}
-use Rattle.curve.specs.Curves.{pointsOf, differences, legPolynomial, squaredLength}
+use Rattle.curve.specs.Curves.{pointsOf, legPolynomial, normPolynomial}
 use Rattle.verdict.specs.declared.Verdict.{Verdict}
 use Rattle.verdict.specs.Promise.{Recognised}
 use Rattle.measure.specs.declared.lengths.Length.{Length}
 use Rattle.measure.specs.declared.LengthAnswer.the-variants as L
 use Rattle.measure.specs.declared.InflectionAnswer.the-variants as I
-use Rattle.measure.specs.Promises.{Measured, Inflected}
+use Rattle.measure.specs.Promise.{Measured, Inflected}
 use Rattle.offset.specs.declared.OffsetAnswer.the-variants.{Written}
-use Rattle.offset.specs.Offsets.{numbersOf, degreeOf, needs, OffsetBy}
+use Rattle.offset.specs.Promise.{pointNumbers, offsetDegree, needs, OffsetBy}
 use Rattle.join.specs.declared.JoinAnswer.the-variants.{Listed}
-use Rattle.join.specs.Listing.{Triple, AllJoins, numbers, Joined}
+use Rattle.join.specs.Promise.{Triple, AllJoins, numbers, Joined}
 
 pub data Claim : Type 0 where
   legs-are : List Pair → Claim
@@ -56,12 +57,12 @@ pub record Long (curve : Curve) (whole : ℕ) : Type 0 where
 
 abbrev pub Says : Curve → Claim → Type 0
 Says curve (legs-are ds) = differences (pointsOf curve) ≡ ds
-Says curve (N-is n) = squaredLength (legPolynomial (pointsOf curve)) ≡ n
+Says curve (N-is n) = normPolynomial (legPolynomial (pointsOf curve)) ≡ n
 Says curve (length-is c a b) = Measured curve (L.Found (record { c = c; a = a; b = b }))
 Says curve (long whole) = Long curve whole
 Says curve (turning-is t0 t1 t2 count) = Inflected curve (I.Found (record { turning = record { t0 = t0; t1 = t1; t2 = t2 }; count = count; straight = false }))
 Says curve (offset-is h w x y) =
-    (area : List ℤ) → needs curve ≤ length area → OffsetBy curve h area (filled (length area) (numbersOf (suc (degreeOf curve)) w x y)) (Written (needs curve))
+    (area : List ℤ) → needs curve ≤ length area → OffsetBy curve h area (filled (length area) (pointNumbers (suc (offsetDegree curve)) w x y)) (Written (needs curve))
 
 abbrev pub SaysAll : Curve → List Claim → Type 0
 SaysAll curve [] = Unit {0}
@@ -75,10 +76,10 @@ pub record JoinsHold (a z T : Pair) (ws : List Triple) : Type 0 where
   pub all : AllJoins a z T ws
   pub answer : (area : List ℤ) → 24 ≤ length area → Joined a z T area (filled (length area) (numbers ws)) (Listed (length ws))
 
-abbrev pub Holds : Row → Type 0
-Holds (curve-is curve v claims) = CurveHolds curve v claims
-Holds (joins-are a z T ws) = JoinsHold a z T ws
+abbrev pub RowHolds : Row → Type 0
+RowHolds (curve-is curve v claims) = CurveHolds curve v claims
+RowHolds (joins-are a z T ws) = JoinsHold a z T ws
 
 abbrev pub All : List Row → Type 0
 All [] = Unit {0}
-All (row ∷ rows) = Holds row × All rows
+All (row ∷ rows) = RowHolds row × All rows

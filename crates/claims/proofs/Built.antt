@@ -4,16 +4,17 @@ use mathlib.Core.Path.{refl, sym, _∙_, subst}
 use mathlib.Core.List.{List, []}
 use mathlib.Core.Logic.{⊎-elim}
 use Rattle.refusal.proofs.Laws.{NoneHolds, first-none}
-use Rattle.whole.specs.Poly.{Same, square}
+use Rattle.poly.specs.Polynomials.{Same, square}
 use Rattle.whole.proofs.Linear.{linear}
 use Rattle.poly.proofs.Lists.{scaled-one}
 use Rattle.poly.proofs.Domain.{product-zero}
 use Rattle.pair.specs.declared.Pair.{Pair}
 use Rattle.pair.specs.Pairs.{pairs, norm, one}
 use Rattle.pair.proofs.Laws.{pairs-ring, pairs-domain}
+use Rattle.bernstein.specs.Powers.{powerForm}
+use Rattle.bernstein.proofs.PowerForms.{powerForm-zero}
 use Rattle.curve.specs.declared.Curve.{Curve}
-use Rattle.curve.specs.Curves.{pointsOf, InRange, powerForm, legPolynomial, squaredLength}
-use Rattle.curve.proofs.PowerForms.{powerForm-zero}
+use Rattle.curve.specs.Curves.{pointsOf, InRange, legPolynomial, normPolynomial}
 use Rattle.verdict.specs.declared.Verdict.{Verdict}
 use Rattle.verdict.specs.declared.Verdict.the-variants as verdict
 use Rattle.verdict.specs.Verdicts.{Generated, Still, Holds}
@@ -21,7 +22,7 @@ use Rattle.verdict.proofs.Multiples.{generated-squared}
 use Rattle.verdict.proofs.Refusals.{recognised-holds}
 use Rattle.verdict.proofs.FoundSizes.{range-stable}
 use Rattle.build.specs.declared.BuildAnswer.the-variants as answer
-use Rattle.build.specs.Builds.{Source, pairsOf, causes, Built}
+use Rattle.build.specs.Promise.{Source, pairsOf, causes, Built}
 use Rattle.build.proofs.Legs.{outside, points-squared}
 use Rattle.claims.specs.Built.{PreOf, BuiltRecognised}
 
@@ -51,7 +52,7 @@ module _ (p0 : Pair) (s : Source) (c : Curve) (h : Built p0 s (answer.Built c)) 
 
   held : (v : Verdict) → Holds (legPolynomial (pointsOf c)) v → PreOf v W
   held verdict.Still z = absurd (moves z)
-  held verdict.No (m, n) = absurd (n (norm one) (squaredLength W) (omega linear) (generated-squared (legPolynomial (pointsOf c)) one W generated))
+  held verdict.No (m, n) = absurd (n (norm one) (normPolynomial W) (omega linear) (generated-squared (legPolynomial (pointsOf c)) one W generated))
   held (verdict.Ph q) (m, t, n) = absurd (n one W generated)
   held (verdict.Pre p) (m, k) = record { preimage = p; pre = refl; square-is = λ i. sym (k .generated i) ∙ D-squared i }
   held (verdict.Refused r) x = absurd x

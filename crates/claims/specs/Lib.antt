@@ -1,2 +1,3 @@
 -- What is claimed across crates.
 pub mod Built
+pub mod Joined

@@ -1,1 +1,1 @@
-// What is true across crates: a built curve is recognised as one with a pre-image. See specs/Built.antt; there is no code here.
+// What is true across crates: a built curve is recognised, and a listed join is built. See specs/; there is no code here.

@@ -1,67 +1,28 @@
 -- The points of a curve as powers of t: r' = n D, for any number of points.
---   powerForm-start     r at 0 is the first point
 --   derivative          the coefficients of r' are n times those of D
 --   start-within, powerForm-within    sizes: for a curve in range no coefficient of r is larger than 1,600,000, by parts
-use mathlib.Core.Path.{_≡_, refl, sym, ap, _∙_, subst}
+use mathlib.Core.Path.{_≡_, sym, ap, _∙_, subst}
 use mathlib.Core.List.{List, [], _∷_}
-use Prim.Native.Nat.{ℕ, zero, suc, _+_, _*_, _-_, _≤_}
-use native.Mathlib.Nat.{mul-le-mul, zero-add}
+use Prim.Native.Nat.{ℕ, zero, suc, _*_, _-_, _≤_}
+use native.Mathlib.Nat.{mul-le-mul}
 use native.Mathlib.Omega.{arith}
-use lib.IntN.{ℤ, pos, natAbs, _*ℤ_, *ℤ-comm}
+use lib.IntN.{ℤ, pos, natAbs, _*ℤ_}
 use lib.ListN.{length}
-use Rattle.whole.specs.Poly.{at, choose}
+use Rattle.whole.specs.Coefficients.{at}
 use Rattle.whole.specs.Number.{Within}
-use Rattle.whole.proofs.Integers.{*ℤ-1, abs-times}
+use Rattle.whole.proofs.Integers.{abs-times}
 use Rattle.pair.specs.declared.Pair.{Pair}
 use Rattle.pair.specs.Pairs.{pairs, multiple, PartsWithin}
-use Rattle.pair.proofs.Parts.{pair-equal, zero-within, wider, re-equal, im-equal}
-use Rattle.pair.proofs.Laws.{multiple-none, multiple-multiple}
-use Rattle.curve.specs.Curves.{InRange, differences, powers, powerForm, legPolynomial}
-use Rattle.curve.proofs.LegPolynomial.{differences-length}
+use Rattle.pair.proofs.Parts.{zero-within, wider, re-equal, im-equal}
+use Rattle.bernstein.specs.Binomials.{choose}
+use Rattle.bernstein.specs.Powers.{powerForm}
+use Rattle.bernstein.proofs.PowerForms.{powerForm-start, powerForm-derived}
+use Rattle.curve.specs.Curves.{InRange, legPolynomial}
 use Rattle.curve.proofs.Sizes.{legSize, legPolynomial-sizes}
 
--- ---- (k + 1) C(m + 1, k + 1) = (m + 1) C(m, k)
-absorbed : (m k : ℕ) → suc k * choose (suc m) (suc k) ≡ suc m * choose m k
-unfolding choose
-absorbed zero zero = refl
-absorbed zero (suc k) = omega arith
-absorbed (suc m) zero = omega (arith, absorbed m zero)
-absorbed (suc m) (suc k) = omega (arith, absorbed m k, absorbed m (suc k))
-
--- ---- the derivative
-powers-derived : (n m k : ℕ) (ds : List Pair) (i : ℕ) → multiple (pos (suc (k + i))) (at pairs (powers n (suc m) (suc k) ds) i) ≡ multiple (pos (suc m)) (at pairs (powers n m k ds) i)
-unfolding powers
-powers-derived zero m k ds i = multiple-none (pos (suc (k + i))) ∙ sym (multiple-none (pos (suc m)))
-powers-derived (suc n) m k [] i = multiple-none (pos (suc (k + i))) ∙ sym (multiple-none (pos (suc m)))
-powers-derived (suc n) m k (d ∷ ds) zero = multiple-multiple (pos (suc (k + 0))) (pos (choose (suc m) (suc k))) (pos (suc m)) (pos (choose m k)) d (ap pos (omega (arith, absorbed m k)))
-powers-derived (suc n) m k (d ∷ ds) (suc i) =
-    ap (λ j. multiple (pos j) (at pairs (powers n (suc m) (suc (suc k)) (differences (d ∷ ds))) i)) (omega arith) ∙ powers-derived n m (suc k) (differences (d ∷ ds)) i
-
-pub powerForm-start : (ps : List Pair) → at pairs (powerForm ps) 0 ≡ at pairs ps 0
-unfolding powerForm powers choose
-powerForm-start [] = refl
-powerForm-start (p ∷ ps) = pair-equal (*ℤ-comm (pos 1) (p .re) ∙ *ℤ-1 (p .re)) (*ℤ-comm (pos 1) (p .im) ∙ *ℤ-1 (p .im))
-
-powerForm-rest : (p : Pair) (ps : List Pair) (k : ℕ) → at pairs (powerForm (p ∷ ps)) (suc k) ≡ at pairs (powers (length ps) (length ps) 1 (differences (p ∷ ps))) k
-unfolding powerForm powers
-powerForm-rest p ps k = ap (λ m. at pairs (powers (length ps) m 1 (differences (p ∷ ps))) k) (omega arith)
-
-legPolynomial-is : (p : Pair) (ps : List Pair) → legPolynomial (p ∷ ps) ≡ powers (length ps) (length ps - 1) 0 (differences (p ∷ ps))
-unfolding legPolynomial powerForm
-legPolynomial-is p ps = ap (λ n. powers n (n - 1) 0 (differences (p ∷ ps))) (omega (arith, differences-length (p ∷ ps)))
-
 pub derivative : (ps : List Pair) (k : ℕ) → multiple (pos (suc k)) (at pairs (powerForm ps) (suc k)) ≡ multiple (pos (length ps - 1)) (at pairs (legPolynomial ps) k)
-unfolding powerForm legPolynomial powers differences
-derivative [] k = multiple-none (pos (suc k)) ∙ sym (multiple-none (pos 0))
-derivative (p ∷ []) k = multiple-none (pos (suc k)) ∙ sym (multiple-none (pos 0))
-derivative (p ∷ q ∷ ps) k =
-    let m : length (p ∷ q ∷ ps) - 1 ≡ suc (length ps) = omega arith in
-    let n : length (q ∷ ps) - 1 ≡ length ps = omega arith in
-    ap (multiple (pos (suc k))) (powerForm-rest p (q ∷ ps) k)
-    ∙ ap (λ j. multiple (pos (suc j)) (at pairs (powers (suc (length ps)) (suc (length ps)) 1 (differences (p ∷ q ∷ ps))) k)) (sym (zero-add k))
-    ∙ powers-derived (suc (length ps)) (length ps) 0 (differences (p ∷ q ∷ ps)) k
-    ∙ sym (ap (λ D. multiple (pos (length (p ∷ q ∷ ps) - 1)) (at pairs D k)) (legPolynomial-is p (q ∷ ps))
-    ∙ (λ i. multiple (pos (m i)) (at pairs (powers (suc (length ps)) (n i) 0 (differences (p ∷ q ∷ ps))) k)))
+unfolding legPolynomial
+derivative ps k = powerForm-derived ps k
 
 -- ---- sizes
 pub start-within : (ps : List Pair) → InRange ps → PartsWithin 20000 (at pairs ps 0)

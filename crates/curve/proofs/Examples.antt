@@ -3,11 +3,13 @@
 use mathlib.Core.Path.{_≡_, refl}
 use mathlib.Core.List.{[], _∷_}
 use lib.IntN.{pos, negsuc}
-use Rattle.whole.specs.Poly.{sum, scaled, product, choose}
+use Rattle.poly.specs.Polynomials.{sum, scaled, product}
 use Rattle.pair.specs.Pairs.{pair}
-use Rattle.curve.specs.Curves.{differences, powers, powerForm, legPolynomial, squaredLength}
+use Rattle.bernstein.specs.Binomials.{choose}
+use Rattle.bernstein.specs.Powers.{differences, kthDifferences, powerForm}
+use Rattle.curve.specs.Curves.{legPolynomial, normPolynomial}
 
-pub case-3 : squaredLength (legPolynomial (pair (pos 0) (pos 0) ∷ pair (pos 1) (pos 0) ∷ pair (pos 1) (pos 1) ∷ pair (pos 2) (pos 1) ∷ []))
+pub case-3 : normPolynomial (legPolynomial (pair (pos 0) (pos 0) ∷ pair (pos 1) (pos 0) ∷ pair (pos 1) (pos 1) ∷ pair (pos 2) (pos 1) ∷ []))
     ≡ pos 1 ∷ negsuc 3 ∷ pos 12 ∷ negsuc 15 ∷ pos 8 ∷ []
-unfolding squaredLength legPolynomial powerForm powers differences choose sum scaled product
+unfolding normPolynomial legPolynomial powerForm kthDifferences differences choose sum scaled product
 case-3 = refl

@@ -7,7 +7,8 @@ use Rattle.whole.proofs.Wholes.{readℤ, atomsℤ, ringℤ}
 use Rattle.pair.specs.declared.Pair.{Pair}
 use Rattle.pair.specs.Pairs.{plus, minus}
 use Rattle.pair.proofs.Parts.{pair-equal}
-use Rattle.curve.specs.Curves.{differences, powerForm, legPolynomial}
+use Rattle.bernstein.specs.Powers.{differences, powerForm}
+use Rattle.curve.specs.Curves.{legPolynomial}
 
 minus-moved : (a p q : Pair) → minus (plus a q) (plus a p) ≡ minus q p
 minus-moved a p q = pair-equal (part (a .re) (p .re) (q .re)) (part (a .im) (p .im) (q .im))

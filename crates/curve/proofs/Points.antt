@@ -8,15 +8,17 @@ use mathlib.Core.Logic.{_↔_}
 use Prim.Native.Nat.{ℕ, zero, suc, _<_}
 use native.Mathlib.Omega.{arith}
 use lib.ListN.{length}
-use Rattle.whole.specs.Poly.{at, Same}
+use Rattle.whole.specs.Coefficients.{at}
+use Rattle.poly.specs.Polynomials.{Same}
 use Rattle.whole.proofs.Ring.{zero-difference}
 use Rattle.pair.specs.declared.Pair.{Pair}
 use Rattle.pair.specs.Pairs.{pairs, minus}
 use Rattle.pair.proofs.Laws.{pairs-ring}
 use Rattle.curve.specs.declared.Curve.{Curve}
 use Rattle.curve.specs.declared.Curve.the-variants.{Cubic, Quintic}
-use Rattle.curve.specs.Curves.{pointsOf, differences, legPolynomial}
-use Rattle.curve.proofs.PowerForms.{powerForm-zero}
+use Rattle.bernstein.specs.Powers.{differences}
+use Rattle.bernstein.proofs.PowerForms.{powerForm-zero}
+use Rattle.curve.specs.Curves.{pointsOf, legPolynomial}
 
 pub curve-once : (c d : Curve) → pointsOf c ≡ pointsOf d → c ≡ d
 curve-once (Cubic c) (Cubic d) e = λ i. Cubic (record { p0 = at pairs (e i) 0; p1 = at pairs (e i) 1; p2 = at pairs (e i) 2; p3 = at pairs (e i) 3 })

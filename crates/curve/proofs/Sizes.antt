@@ -2,7 +2,7 @@
 --   legSize                    40,000, 320,000, 960,000, 1,280,000 and 640,000 for the powers 0 to 4, and 0 above
 --   legPolynomial-sizes        D's parts by powers, and
 --   legPolynomial-within       every one of them is at most 1,280,000 in size
---   squaredLength-within       every coefficient of N is at most 10¹³ in size
+--   normPolynomial-within       every coefficient of N is at most 10¹³ in size
 use mathlib.Core.Path.{_≡_}
 use mathlib.Core.List.{List}
 use Prim.Native.Nat.{ℕ, zero, suc, _+_, _-_, _*_, _^_, _<_, _≤_, zero-le}
@@ -10,19 +10,23 @@ use native.Mathlib.Nat.{le-refl, le-trans, mul-le-mul, zero-mul}
 use native.Mathlib.Omega.{arith}
 use lib.IntN.{ℤ, natAbs, _*ℤ_}
 use lib.ListN.{length}
-use Rattle.whole.specs.Poly.{at, choose}
+use Rattle.whole.specs.Coefficients.{at}
 use Rattle.whole.specs.Number.{wholes, Within}
 use Rattle.whole.proofs.Integers.{abs-times}
 use Rattle.whole.proofs.Bound.{abs-plus}
+use Rattle.whole.proofs.Wholes.{wholes-ring}
 use Rattle.poly.proofs.Series.{Series, tail, conv}
-use Rattle.poly.proofs.Binomials.{choose-above, choose-le}
-use Rattle.poly.proofs.Blends.{inPowers-within}
 use Rattle.pair.specs.declared.Pair.{Pair}
 use Rattle.pair.specs.Pairs.{pairs, PartsWithin}
 use Rattle.pair.proofs.Parts.{wider}
-use Rattle.curve.specs.Curves.{InRange, differences, legPolynomial, squaredLength}
-use Rattle.curve.proofs.Lengths.{re-of, im-of, at-squaredLength}
-use Rattle.curve.proofs.LegPolynomial.{Part, re-part, im-part, legPolynomial-part, legs-within}
+use Rattle.bernstein.specs.Binomials.{choose}
+use Rattle.bernstein.specs.Powers.{differences}
+use Rattle.bernstein.proofs.Binomials.{choose-above, choose-le}
+use Rattle.bernstein.proofs.InPowers.{inPowers-within}
+use Rattle.bernstein.proofs.PowerForms.{Linear, re-part, im-part}
+use Rattle.curve.specs.Curves.{InRange, legPolynomial, normPolynomial}
+use Rattle.curve.proofs.Norms.{re-of, im-of, at-normPolynomial}
+use Rattle.curve.proofs.LegPolynomial.{legPolynomial-part, legs-within}
 
 abbrev pub legSize : ℕ → ℕ
 legSize k = choose 4 k * (2 ^ k * 40000)
@@ -68,7 +72,7 @@ square-most k h =
 
 module _ (ps : List Pair) (r : InRange ps) (l : length ps ≤ 6) where
   -- ---- D
-  module _ {part : Pair → ℤ} (P : Part part) (h : (i : ℕ) → Within 40000 (part (at pairs (differences ps) i))) where
+  module _ {part : Pair → ℤ} (P : Linear wholes-ring part) (h : (i : ℕ) → Within 40000 (part (at pairs (differences ps) i))) where
     part-within : (k : ℕ) → Within (legSize k) (part (at pairs (legPolynomial ps) k))
     part-within k =
         rw (legPolynomial-part P ps k)
@@ -80,9 +84,9 @@ module _ (ps : List Pair) (r : InRange ps) (l : length ps ≤ 6) where
   pub legPolynomial-within : (k : ℕ) → PartsWithin 1280000 (at pairs (legPolynomial ps) k)
   legPolynomial-within k = wider (legSize-most k) (legPolynomial-sizes k)
 
-  pub squaredLength-within : (k : ℕ) → Within 10000000000000 (at wholes (squaredLength (legPolynomial ps)) k)
-  squaredLength-within k =
-      rw (at-squaredLength (legPolynomial ps) k)
+  pub normPolynomial-within : (k : ℕ) → Within 10000000000000 (at wholes (normPolynomial (legPolynomial ps)) k)
+  normPolynomial-within k =
+      rw (at-normPolynomial (legPolynomial ps) k)
       (record {
         size = omega (
           arith,

@@ -1,20 +1,18 @@
 -- A curve's points, its leg polynomial D and N = |D|², for any number of points.
 --   pointsOf, InRange          the points; every coordinate is from −20,000 to 20,000
---   differences                the legs of a list of points
---   powers, powerForm          Bernstein coefficients to power coefficients
---   legPolynomial              D, for which r' = n D
+--   legPolynomial              D: the polynomial whose Bernstein coefficients are the legs
 --   reals, imaginaries         the parts of a polynomial
---   squaredLength              N
+--   normPolynomial             N
 use mathlib.Core.List.{List, [], _∷_, map}
-use Prim.Native.Nat.{ℕ, zero, suc, _-_}
-use lib.IntN.{ℤ, pos}
-use lib.ListN.{length}
-use Rattle.whole.specs.Poly.{sum, square, choose}
+use lib.IntN.{ℤ}
+use Rattle.poly.specs.Polynomials.{sum, square}
 use Rattle.whole.specs.Number.{wholes}
 use Rattle.pair.specs.declared.Pair.{Pair}
-use Rattle.pair.specs.Pairs.{minus, multiple, PartsWithin}
+use Rattle.pair.specs.Pairs.{PartsWithin}
+use Rattle.bernstein.specs.Powers.{differences, powerForm}
 use Rattle.curve.specs.declared.Curve.{Curve}
 use Rattle.curve.specs.declared.Curve.the-variants.{Cubic, Quintic}
+use Rattle.curve.specs.Sizes.{coordinateReach}
 
 abbrev pub pointsOf : Curve → List Pair
 pointsOf (Cubic c) = c .p0 ∷ c .p1 ∷ c .p2 ∷ c .p3 ∷ []
@@ -22,21 +20,7 @@ pointsOf (Quintic c) = c .p0 ∷ c .p1 ∷ c .p2 ∷ c .p3 ∷ c .p4 ∷ c .p5 �
 
 abbrev pub InRange : List Pair → Type 0
 InRange [] = Unit {0}
-InRange (p ∷ ps) = PartsWithin 20000 p × InRange ps
-
-unfoldable pub differences : List Pair → List Pair
-differences [] = []
-differences (p ∷ []) = []
-differences (p ∷ q ∷ ps) = minus q p ∷ differences (q ∷ ps)
-
--- at degree m the k-th power coefficient is C(m, k) times the first of the k-th differences; the first number only counts
-unfoldable pub powers : ℕ → ℕ → ℕ → List Pair → List Pair
-powers zero m k ds = []
-powers (suc n) m k [] = []
-powers (suc n) m k (d ∷ ds) = multiple (pos (choose m k)) d ∷ powers n m (suc k) (differences (d ∷ ds))
-
-unfoldable pub powerForm : List Pair → List Pair
-powerForm ds = powers (length ds) (length ds - 1) 0 ds
+InRange (p ∷ ps) = PartsWithin coordinateReach p × InRange ps
 
 unfoldable pub legPolynomial : List Pair → List Pair
 legPolynomial ps = powerForm (differences ps)
@@ -47,5 +31,5 @@ reals = map (λ (z : Pair). z .re)
 abbrev pub imaginaries : List Pair → List ℤ
 imaginaries = map (λ (z : Pair). z .im)
 
-unfoldable pub squaredLength : List Pair → List ℤ
-squaredLength D = sum wholes (square wholes (reals D)) (square wholes (imaginaries D))
+unfoldable pub normPolynomial : List Pair → List ℤ
+normPolynomial D = sum wholes (square wholes (reals D)) (square wholes (imaginaries D))

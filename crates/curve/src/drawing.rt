@@ -1,7 +1,7 @@
 // The legs of a curve, and D as powers of t, by the table of differences of the legs.
 use crate::Cubic;
 use crate::Curve;
-use crate::Five;
+use crate::LegPowers;
 use crate::Legs;
 use crate::Quintic;
 use pair::Pair;
@@ -9,10 +9,12 @@ use pair::difference;
 use pair::multiple;
 ghost use mathlib.Core.Path.{_≡_};
 ghost use mathlib.Core.List.{_∷_, []};
-ghost use Rattle.whole.specs.Poly.{Same};
+ghost use Rattle.poly.specs.Polynomials.{Same};
 ghost use Rattle.pair.specs.Pairs.{pairs, PartsWithin, AllWithin};
-ghost use Rattle.curve.specs.Curves.{pointsOf, InRange, differences, powerForm};
-ghost use Rattle.curve.specs.Steps.{legsOf, five, secondOf};
+ghost use Rattle.bernstein.specs.Powers.{differences, powerForm};
+ghost use Rattle.curve.specs.Curves.{pointsOf, InRange};
+ghost use Rattle.curve.specs.Steps.{legsOf, legPowers, secondOf};
+ghost use Rattle.curve.specs.Sizes.{legReach};
 
 fn cubic_legs(c: Cubic) -> Legs
     requires { ⌜ InRange (pointsOf (Curve.Cubic c)) ⌝ }
@@ -64,12 +66,12 @@ fn second(a: Pair, b: Pair, c: Pair) -> Pair
     difference(difference(c, b), difference(b, a))
 }
 
-fn cubic_drawn(d0: Pair, d1: Pair, d2: Pair) -> Five
-    requires { ⌜ AllWithin 40000 (d0 ∷ d1 ∷ d2 ∷ []) ⌝ }
-    ensures { λ e. ⌜ Same pairs (five e) (powerForm (d0 ∷ d1 ∷ d2 ∷ [])) ⌝ }
+fn cubic_drawn(d0: Pair, d1: Pair, d2: Pair) -> LegPowers
+    requires { ⌜ AllWithin legReach (d0 ∷ d1 ∷ d2 ∷ []) ⌝ }
+    ensures { λ e. ⌜ Same pairs (legPowers e) (powerForm (d0 ∷ d1 ∷ d2 ∷ [])) ⌝ }
 {
     let none = Pair { re: 0, im: 0 };
-    Five {
+    LegPowers {
         e0: d0,
         e1: multiple(2, difference(d1, d0)),
         e2: second(d0, d1, d2),
@@ -78,14 +80,14 @@ fn cubic_drawn(d0: Pair, d1: Pair, d2: Pair) -> Five
     }
 }
 
-fn quintic_drawn(d0: Pair, d1: Pair, d2: Pair, d3: Pair, d4: Pair) -> Five
-    requires { ⌜ AllWithin 40000 (d0 ∷ d1 ∷ d2 ∷ d3 ∷ d4 ∷ []) ⌝ }
-    ensures { λ e. ⌜ Same pairs (five e) (powerForm (d0 ∷ d1 ∷ d2 ∷ d3 ∷ d4 ∷ [])) ⌝ }
+fn quintic_drawn(d0: Pair, d1: Pair, d2: Pair, d3: Pair, d4: Pair) -> LegPowers
+    requires { ⌜ AllWithin legReach (d0 ∷ d1 ∷ d2 ∷ d3 ∷ d4 ∷ []) ⌝ }
+    ensures { λ e. ⌜ Same pairs (legPowers e) (powerForm (d0 ∷ d1 ∷ d2 ∷ d3 ∷ d4 ∷ [])) ⌝ }
 {
     let s0 = second(d0, d1, d2);
     let s1 = second(d1, d2, d3);
     let s2 = second(d2, d3, d4);
-    Five {
+    LegPowers {
         e0: d0,
         e1: multiple(4, difference(d1, d0)),
         e2: multiple(6, s0),
@@ -95,9 +97,9 @@ fn quintic_drawn(d0: Pair, d1: Pair, d2: Pair, d3: Pair, d4: Pair) -> Five
 }
 
 // D, from the legs.
-pub fn drawn(legs: Legs) -> Five
-    requires { ⌜ AllWithin 40000 (legsOf legs) ⌝ }
-    ensures { λ e. ⌜ Same pairs (five e) (powerForm (legsOf legs)) ⌝ }
+pub fn drawn(legs: Legs) -> LegPowers
+    requires { ⌜ AllWithin legReach (legsOf legs) ⌝ }
+    ensures { λ e. ⌜ Same pairs (legPowers e) (powerForm (legsOf legs)) ⌝ }
 {
     match legs {
         Legs::Cubic(d0, d1, d2) => cubic_drawn(d0, d1, d2),

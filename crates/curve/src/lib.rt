@@ -7,6 +7,9 @@ pub use drawing::legs_of;
 use pair::Pair;
 pub use ranges::in_range;
 
+// How far a coordinate may be from 0.
+pub const COORDINATE_REACH: u32 = 20000;
+
 pub struct Cubic {
     pub p0: Pair,
     pub p1: Pair,
@@ -35,7 +38,7 @@ pub enum Legs {
 }
 
 // e0 + e1 t + .. + e4 t^4
-pub struct Five {
+pub struct LegPowers {
     pub e0: Pair,
     pub e1: Pair,
     pub e2: Pair,

@@ -1,4 +1,5 @@
 // Whether a curve is in range: every coordinate from -20,000 to 20,000.
+use crate::COORDINATE_REACH;
 use crate::Cubic;
 use crate::Curve;
 use crate::Quintic;
@@ -11,16 +12,16 @@ ghost use Rattle.curve.specs.Curves.{pointsOf, InRange};
 fn four_in_range(p0: Pair, p1: Pair, p2: Pair, p3: Pair) -> bool
     ensures { λ r. ⌜ Tells (InRange (p0 ∷ p1 ∷ p2 ∷ p3 ∷ [])) r ⌝ }
 {
-    if !within(p0, 20000) {
+    if !within(p0, COORDINATE_REACH) {
         return false;
     }
-    if !within(p1, 20000) {
+    if !within(p1, COORDINATE_REACH) {
         return false;
     }
-    if !within(p2, 20000) {
+    if !within(p2, COORDINATE_REACH) {
         return false;
     }
-    if !within(p3, 20000) {
+    if !within(p3, COORDINATE_REACH) {
         return false;
     }
     true
@@ -48,10 +49,10 @@ fn quintic_in_range(c: Quintic) -> bool
     if !four_in_range(p0, p1, p2, p3) {
         return false;
     }
-    if !within(p4, 20000) {
+    if !within(p4, COORDINATE_REACH) {
         return false;
     }
-    if !within(p5, 20000) {
+    if !within(p5, COORDINATE_REACH) {
         return false;
     }
     true

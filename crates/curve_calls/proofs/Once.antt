@@ -8,17 +8,17 @@ use lib.IntN.{ℤ}
 use lib.ListN.{length}
 use Rattle.refusal.specs.declared.Refusal.the-variants as refusal
 use Rattle.refusal.specs.Answers.{refuse}
-use Rattle.whole.specs.Poly.{at}
+use Rattle.whole.specs.Coefficients.{at}
 use Rattle.pair.specs.declared.Pair.{Pair}
 use Rattle.pair.specs.Pairs.{pairs}
 use Rattle.curve.specs.Curves.{pointsOf}
 use Rattle.verdict.proofs.Once.{recognised-once}
 use Rattle.measure.proofs.Once.{measured-once, inflected-once}
-use Rattle.offset.specs.Offsets.{answerOfOffset}
+use Rattle.offset.specs.Promise.{answerOfOffset}
 use Rattle.offset.proofs.Once.{offset-once as offset-by-once}
-use Rattle.build.specs.Builds.{Source, cubic, quintic, pairsOf as builtFrom}
+use Rattle.build.specs.Promise.{Source, cubic, quintic, pairsOf as builtFrom}
 use Rattle.build.proofs.Once.{built-once}
-use Rattle.join.specs.Listing.{answerOfJoins}
+use Rattle.join.specs.Promise.{answerOfJoins}
 use Rattle.join.proofs.Once.{joined-once}
 use Rattle.record.specs.Kinds.{numbersOf}
 use Rattle.hand.specs.Promise.{NoSource}

@@ -12,7 +12,7 @@ use lib.ListN.{replicate}
 use Rattle.refusal.specs.declared.Refusal.the-variants as refusal
 use Rattle.refusal.specs.Answers.{Answer, refuse}
 use Rattle.pair.specs.declared.Pair.{Pair}
-use Rattle.root.specs.Roots.{quartic}
+use Rattle.root.specs.Promise.{quartic}
 use Rattle.verdict.specs.Verdicts.{quadratic}
 use Rattle.curve.specs.declared.Curve.{Curve}
 use Rattle.curve.specs.Curves.{pointsOf}
@@ -21,10 +21,10 @@ use Rattle.verdict.specs.declared.Verdict.the-variants as verdict
 use Rattle.verdict.specs.Promise.{Recognised, answerOfVerdict}
 use Rattle.measure.specs.declared.lengths.Length.{Length}
 use Rattle.measure.specs.declared.counting.Inflections.{Inflections}
-use Rattle.measure.specs.Promises.{Measured, Inflected, answerOfLength, answerOfInflections}
-use Rattle.offset.specs.Offsets.{OffsetBy, answerOfOffset}
-use Rattle.build.specs.Builds.{Source, Built, answerOfBuilt, pairsOf as builtFrom}
-use Rattle.join.specs.Listing.{Joined, answerOfJoins}
+use Rattle.measure.specs.Promise.{Measured, Inflected, answerOfLength, answerOfInflections}
+use Rattle.offset.specs.Promise.{OffsetBy, answerOfOffset}
+use Rattle.build.specs.Promise.{Source, Built, answerOfBuilt, pairsOf as builtFrom}
+use Rattle.join.specs.Promise.{Joined, answerOfJoins}
 use Rattle.record.specs.Kinds.{numbersOf}
 use Rattle.hand.specs.Promise.{Hands, Handed, Counted, OnCurve, NoSource}
 

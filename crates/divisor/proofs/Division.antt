@@ -1,6 +1,9 @@
 -- Division of pairs: a / b is a conj(b) over |b|².
 --   divides-over, over-divides       b q = a, and |b|² q = a conj(b) part by part, say the same
---   quotient-once          an exact quotient has one answer
+--   parts-below-norm       no part of a pair is larger than its norm
+--   over-norm              a conj(b) over |b|² is a over b
+--   undivided-none         what is n times a pair is divided by n
+--   share-once, over-whole-once, quotient-once       an exact quotient has one answer
 --   quotient-within        it is no larger than a
 --   divisor-within         a divisor of a pair other than 0 is no larger than that pair
 --   norm-within            a norm is at most twice the square of the size of the parts
@@ -10,7 +13,7 @@
 --   rest-sum, rest-within, rest-less       what it leaves over: q b + r = a, where r is no larger than b and has a smaller norm
 use mathlib.Core.Path.{_≡_, refl, sym, ap, _∙_, subst}
 use mathlib.Core.List.{[], _∷_}
-use mathlib.Core.Logic.{_≢_, _↔_}
+use mathlib.Core.Logic.{_≢_, _↔_, inl, inr}
 use Prim.Native.Nat.{ℕ, zero, suc, _+_, _*_, _≤_, _<_}
 use native.Mathlib.Nat.{le-refl, mul-le-mul, le-of-mul-le-mul-left, le-of-mul-le-mul-right, pos-of-ne-zero}
 use native.Mathlib.Decide.{decLe}
@@ -18,8 +21,8 @@ use native.Mathlib.Omega.{arith}
 use lib.IntN.{ℤ, pos, negℤ, natAbs, _+ℤ_, _-ℤ_, _*ℤ_, +ℤ-comm}
 use lib.Signed.{_≤ℤ_, _<ℤ_}
 use Rattle.whole.specs.Number.{Within}
-use Rattle.whole.specs.Poly.{Divides}
-use Rattle.whole.specs.Quotients.{Nearest}
+use Rattle.whole.specs.Coefficients.{Divides}
+use Rattle.whole.specs.Promise.{Nearest}
 use Rattle.whole.proofs.Integers.{abs-negative, abs-times, abs-zero}
 use Rattle.whole.proofs.Ring.{times-none}
 use Rattle.whole.proofs.Wholes.{readℤ, atomsℤ, ringℤ, equal-by, zero-equal, zero-times, zero-plus, *ℤ-cancel}
@@ -29,12 +32,13 @@ use Rattle.whole.proofs.Division.{nearest-close}
 use Rattle.whole.proofs.Division as whole
 use Rattle.poly.proofs.Domain.{times-cancel}
 use Rattle.pair.specs.declared.Pair.{Pair}
-use Rattle.pair.specs.Pairs.{pair, pairs, plus, minus, times, conjugate, norm, PartsWithin}
-use Rattle.pair.proofs.Parts.{pair-equal}
+use Rattle.pair.specs.Pairs.{pair, pairs, plus, minus, times, multiple, conjugate, norm, PartsWithin}
+use Rattle.pair.proofs.Parts.{pair-equal, re-equal, im-equal}
 use Rattle.pair.proofs.Laws.{times-comm, pairs-ring, pairs-domain, root-le, norm-size, norm-nonneg, norm-zero, norm-some}
 use Rattle.divisor.specs.declared.PairQuotient.{PairQuotient}
 use Rattle.divisor.specs.declared.PairQuotient.the-variants.{Whole, None}
-use Rattle.divisor.specs.Quotients.{IsPairQuotient, NearestPair, Rest}
+use Rattle.divisor.specs.Promise.{IsPairQuotient, Undivided, IsOverWhole, NearestPair}
+use Rattle.divisor.specs.Steps.{Rest}
 
 -- ---- identities, for a = x + iy, b = u + iv and q = p + iq
 module _ (x y u v p q : ℤ) where
@@ -77,6 +81,12 @@ square-above : (n : ℕ) → n ≤ n * n
 square-above zero = omega arith
 square-above (suc n) = omega arith
 
+pub parts-below-norm : (a : Pair) → PartsWithin (natAbs (norm a)) a
+parts-below-norm a = record {
+  re = record { size = omega (arith, norm-abs a, square-above (natAbs (a .re))) };
+  im = record { size = omega (arith, norm-abs a, square-above (natAbs (a .im))) };
+}
+
 -- |p + r| ≤ B (u² + v²), where |p| = x u and |r| = y v, and x and y are at most B
 sum-within : {B x y : ℕ} (u v : ℕ) (p r : ℤ) → natAbs p ≡ x * u → natAbs r ≡ y * v → x ≤ B → y ≤ B → Within (B * (u * u + v * v)) (p +ℤ r)
 sum-within u v p r e f h k = record { size = omega (arith, abs-plus p r, mul-le-mul h (square-above u), mul-le-mul k (square-above v)) }
@@ -109,8 +119,28 @@ over-divides a b q h e f =
     (*ℤ-cancel (norm b) (λ z. h (norm-zero b z)) (back-re (a .re) (a .im) (b .re) (b .im) (q .re) (q .im) e f))
     (*ℤ-cancel (norm b) (λ z. h (norm-zero b z)) (back-im (a .re) (a .im) (b .re) (b .im) (q .re) (q .im) e f))
 
+pub share-once : (a b p q : Pair) → b ≢ pairs .none → times b p ≡ a → times b q ≡ a → p ≡ q
+share-once a b p q h e f = times-cancel pairs-ring pairs-domain b p q h (e ∙ sym f)
+
+-- a pair that is n q has both parts divided by n
+pub undivided-none : (a : Pair) (n : ℤ) (q : Pair) → Undivided n a → multiple n q ≡ a → ⊥
+undivided-none a n q (inl f) e = f (record { factor = q .re; is = re-equal e })
+undivided-none a n q (inr f) e = f (record { factor = q .im; is = im-equal e })
+
+pub over-whole-once : (a : Pair) (n : ℤ) → n ≢ pos 0 → (r s : PairQuotient) → IsOverWhole a n r → IsOverWhole a n s → r ≡ s
+over-whole-once a n h (Whole p) (Whole q) e f =
+    ap Whole (pair-equal (*ℤ-cancel n h (re-equal e ∙ sym (re-equal f))) (*ℤ-cancel n h (im-equal e ∙ sym (im-equal f))))
+over-whole-once a n h (Whole p) None e f = absurd (undivided-none a n p f e)
+over-whole-once a n h None (Whole q) e f = absurd (undivided-none a n q e f)
+over-whole-once a n h None None e f = refl
+
+-- over |b|² is over b
+pub over-norm : (a b : Pair) → b ≢ pairs .none → (r : PairQuotient) → IsOverWhole (times a (conjugate b)) (norm b) r → IsPairQuotient a b r
+over-norm a b h (Whole q) e = over-divides a b q h (re-equal e) (im-equal e)
+over-norm a b h None u = λ d. let (e, f) = divides-over a b (d .factor) (d .is) in undivided-none (times a (conjugate b)) (norm b) (d .factor) u (pair-equal e f)
+
 pub quotient-once : (a b : Pair) → b ≢ pairs .none → (r s : PairQuotient) → IsPairQuotient a b r → IsPairQuotient a b s → r ≡ s
-quotient-once a b h (Whole p) (Whole q) e f = ap Whole (times-cancel pairs-ring pairs-domain b p q h (e ∙ sym f))
+quotient-once a b h (Whole p) (Whole q) e f = ap Whole (share-once a b p q h e f)
 quotient-once a b h (Whole p) None e f = absurd (f (record { factor = p; is = e }))
 quotient-once a b h None (Whole q) e f = absurd (e (record { factor = q; is = f }))
 quotient-once a b h None None e f = refl

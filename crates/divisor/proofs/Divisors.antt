@@ -7,7 +7,8 @@ use mathlib.Core.List.{List, []}
 use mathlib.Core.Logic.{_↔_, ⊎-elim}
 use Prim.Native.Nat.{ℕ}
 use lib.IntN.{pos, ℤ-discrete}
-use Rattle.whole.specs.Poly.{at, Same, Divides, Greatest}
+use Rattle.whole.specs.Coefficients.{at, Divides, Greatest}
+use Rattle.poly.specs.Polynomials.{Same}
 use Rattle.whole.proofs.Divisor.{divides-self, divides-none}
 use Rattle.whole.proofs.Ring.{none-times}
 use Rattle.poly.specs.Terms.{IsUnit}

@@ -9,7 +9,7 @@ use mathlib.Core.Logic.{_≢_, _⊎_, inl, inr}
 use Prim.Native.Nat.{_<_}
 use lib.IntN.{ℤ, pos, negsuc, negℤ, natAbs, _+ℤ_, _-ℤ_, _*ℤ_}
 use lib.Signed.{quotZ, remZ, _≤ℤ_, _<ℤ_}
-use Rattle.whole.specs.Quotients.{Nearest}
+use Rattle.whole.specs.Promise.{Nearest}
 use Rattle.whole.proofs.Division.{quotient-rest, rest-below}
 use Rattle.whole.proofs.Linear.{linear, minus-parts, times-parts, negative-parts, abs-parts, one-part}
 use Rattle.whole.proofs.Order.{compare}
@@ -19,7 +19,7 @@ use Rattle.poly.proofs.Euclid.{Euclid, euclid-bezout}
 use Rattle.pair.specs.declared.Pair.{Pair}
 use Rattle.pair.specs.Pairs.{pair, pairs, plus, minus, times, conjugate, norm}
 use Rattle.pair.proofs.Laws.{pairs-ring, pairs-domain, norm-some, pair-zero?}
-use Rattle.divisor.specs.Quotients.{Rest}
+use Rattle.divisor.specs.Steps.{Rest}
 use Rattle.divisor.proofs.Division.{rest-sum, rest-less}
 
 moved : (n d q r k : ℤ) → q *ℤ d +ℤ r ≡ n → n -ℤ (q +ℤ k) *ℤ d ≡ r -ℤ k *ℤ d

@@ -26,7 +26,8 @@ use Rattle.pair.specs.declared.Pair.{Pair}
 use Rattle.pair.specs.Pairs.{pair, pairs, negative, times, norm, PartsWithin}
 use Rattle.pair.proofs.Parts.{pair-equal, im-equal}
 use Rattle.pair.proofs.Laws.{norm-times, square-size, root-le, root-equal, norm-size}
-use Rattle.divisor.specs.Roots.{Candidate, KeptRoot}
+use Rattle.divisor.specs.Steps.{Candidate}
+use Rattle.divisor.specs.Promise.{KeptRoot}
 
 -- the second part of a square is 0 where the first part of the root is
 crossed-zero : {p : ℤ} (q : ℤ) → p ≡ pos 0 → p *ℤ q +ℤ q *ℤ p ≡ pos 0

@@ -24,7 +24,7 @@ use Rattle.pair.proofs.Parts.{pair-equal}
 use Rattle.pair.proofs.Laws.{pairs-ring, pairs-domain, negative-twice, norm-times, root-le, norm-size, pair-zero?}
 use Rattle.divisor.specs.declared.PairRoot.{PairRoot}
 use Rattle.divisor.specs.declared.PairRoot.the-variants.{Root, None}
-use Rattle.divisor.specs.Roots.{KeptRoot, IsPairRoot}
+use Rattle.divisor.specs.Promise.{KeptRoot, IsPairRoot}
 
 -- ---- one answer
 pub square-roots : (a b : Pair) → times a a ≡ times b b → (a ≡ b) ⊎ (a ≡ negative b)

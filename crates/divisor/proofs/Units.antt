@@ -10,7 +10,7 @@ use native.Mathlib.Nat.{one-mul}
 use native.Mathlib.Omega.{arith}
 use lib.IntN.{ℤ, pos, natAbs, _+ℤ_, _-ℤ_, _*ℤ_, +ℤ-idl, *ℤ-comm, *ℤ-zero, zero-*ℤ}
 use Rattle.whole.specs.Number.{wholes}
-use Rattle.whole.specs.Poly.{Coefficients}
+use Rattle.whole.specs.Coefficients.{Coefficients}
 use Rattle.whole.proofs.Integers.{abs-times, abs-zero, abs-one}
 use Rattle.whole.proofs.Ring.{Ring, zero-difference}
 use Rattle.whole.proofs.Linear.{linear, plus-parts, abs-parts, one-part}

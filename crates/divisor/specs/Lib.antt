@@ -1,3 +1,3 @@
 -- What quotients, common divisors and roots of pairs promise.
-pub mod Quotients
-pub mod Roots
+pub mod Promise
+pub mod Steps

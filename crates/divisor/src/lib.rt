@@ -2,6 +2,7 @@
 // What is divided by has parts of at most 2^20 in size, and what is divided, of 2^40, so that the parts of a conj(b) fit.
 use pair::Pair;
 use pair::difference;
+use pair::equal;
 use pair::is_zero;
 use pair::norm;
 use pair::product;
@@ -10,12 +11,12 @@ ghost use mathlib.Core.List.{_∷_, []};
 ghost use mathlib.Core.Logic.{_≢_};
 ghost use Prim.Native.Nat.{_*_, _^_};
 ghost use lib.IntN.{pos};
-ghost use lib.Signed.{_≤ℤ_};
+ghost use lib.Signed.{_≤ℤ_, _<ℤ_};
 ghost use Rattle.whole.specs.Number.{Within};
-ghost use Rattle.whole.specs.Poly.{Divides, Greatest};
+ghost use Rattle.whole.specs.Coefficients.{Divides, Greatest};
 ghost use Rattle.pair.specs.Pairs.{pairs, times, conjugate, norm, PartsWithin};
-ghost use Rattle.divisor.specs.Quotients.{IsPairQuotient, NearestPair, Rest};
-ghost use Rattle.divisor.specs.Roots.{HalfRoot, Candidate, IsPairRoot};
+ghost use Rattle.divisor.specs.Promise.{IsPairQuotient, IsOverWhole, NearestPair, IsPairRoot};
+ghost use Rattle.divisor.specs.Steps.{Rest, HalfRoot, Candidate};
 
 // A quotient that has to be a pair.
 pub enum PairQuotient {
@@ -44,22 +45,28 @@ fn numerator(a: Pair, b: Pair) -> Pair
     }
 }
 
+// a / n where n divides both parts of a.
+pub fn over_whole(a: Pair, n: i64) -> PairQuotient
+    requires { ⌜ pos 0 <ℤ n ⌝ }
+    ensures { λ r. ⌜ IsOverWhole a n r ⌝ }
+{
+    let x = a.re;
+    let y = a.im;
+    let whole::Exact::Whole(u) = whole::quotient(x, n) else {
+        return PairQuotient::None;
+    };
+    let whole::Exact::Whole(v) = whole::quotient(y, n) else {
+        return PairQuotient::None;
+    };
+    PairQuotient::Whole(Pair { re: u, im: v })
+}
+
 // a / b where b divides a.
 pub fn quotient(a: Pair, b: Pair) -> PairQuotient
     requires { ⌜ PartsWithin (2 ^ 40) a × PartsWithin (2 ^ 20) b × (b ≢ pairs .none) ⌝ }
     ensures { λ r. ⌜ IsPairQuotient a b r ⌝ }
 {
-    let n = numerator(a, b);
-    let d = norm(b);
-    let x = n.re;
-    let y = n.im;
-    let whole::Exact::Whole(u) = whole::quotient(x, d) else {
-        return PairQuotient::None;
-    };
-    let whole::Exact::Whole(v) = whole::quotient(y, d) else {
-        return PairQuotient::None;
-    };
-    PairQuotient::Whole(Pair { re: u, im: v })
+    over_whole(numerator(a, b), norm(b))
 }
 
 // a / b, which is known to be a pair.
@@ -125,7 +132,7 @@ fn half_root(s: i64) -> i64
 {
     match whole::square_root(s as u64 / 2) {
         whole::Root::Square(r) => r as i64,
-        whole::Root::NotSquare => 0,
+        whole::Root::None => 0,
     }
 }
 
@@ -156,15 +163,7 @@ fn kept(z: Pair, w: Pair) -> PairRoot
     requires { ⌜ Candidate z w ⌝ }
     ensures { λ r. ⌜ IsPairRoot z r ⌝ }
 {
-    let s = product(w, w);
-    let p = s.re;
-    let q = s.im;
-    let x = z.re;
-    let y = z.im;
-    if p != x {
-        return PairRoot::None;
-    }
-    if q != y {
+    if !equal(product(w, w), z) {
         return PairRoot::None;
     }
     PairRoot::Root(w)
@@ -177,6 +176,6 @@ pub fn root(z: Pair) -> PairRoot
 {
     match whole::square_root(norm(z) as u64) {
         whole::Root::Square(n) => kept(z, candidate(z, n)),
-        whole::Root::NotSquare => PairRoot::None,
+        whole::Root::None => PairRoot::None,
     }
 }

@@ -23,7 +23,7 @@ use Rattle.pair.proofs.Parts.{re-equal, im-equal}
 use Rattle.pair.proofs.Laws.{multiple-cancel}
 use Rattle.pair.proofs.PairSolver.{PairEx, the, _⊞_, _⊟_, _⊠_, _··_, opposite, solve-pairs}
 use Rattle.divisor.proofs.Roots.{square-roots, kept-roots}
-use Rattle.join.specs.Listing.{Triple, travelled, Travels, Join, Below, AllJoins}
+use Rattle.join.specs.Promise.{Triple, travelled, Travels, Join, Below, AllJoins}
 use Rattle.join.specs.Steps.{triple, shift, discriminant, centre, Quartered, Half}
 use Rattle.join.proofs.Order.{triple-equal, Before}
 use Rattle.join.proofs.Few.{sorted-distinct, AtMost, at-most-one, at-most-as, at-most-both, at-most-by}

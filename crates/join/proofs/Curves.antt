@@ -11,7 +11,7 @@ use Prim.Native.Nat.{ℕ, zero, suc}
 use native.Mathlib.Omega.{arith}
 use lib.IntN.{pos}
 use lib.ListN.{length}
-use Rattle.whole.specs.Poly.{at}
+use Rattle.whole.specs.Coefficients.{at}
 use Rattle.whole.specs.Number.{FirstPositive}
 use Rattle.whole.proofs.Ring.{plus-cancel, zero-difference}
 use Rattle.poly.proofs.Domain.{times-cancel}
@@ -21,8 +21,8 @@ use Rattle.pair.proofs.Laws.{pairs-ring, pairs-domain, multiple-cancel, pair-ze
 use Rattle.pair.proofs.PairSolver.{the, _⊞_, _⊟_, _⊠_, _··_, opposite, nought, solve-pairs}
 use Rattle.divisor.proofs.Roots.{first-some, first-found, kept-roots}
 use Rattle.curve.proofs.SquaredLegs.{t0, t1, t2, t3, t4, quintic-legs}
-use Rattle.join.specs.Listing.{Triple, travelled, Join, Member, AllJoins}
-use Rattle.join.specs.Curves.{QuinticLegs, legList, total, tripled, Squares, Traces, TracedOnce}
+use Rattle.join.specs.Promise.{Triple, travelled, Join, Member, AllJoins}
+use Rattle.join.specs.Curves.{QuinticLegs, legList, travelOf, tripled, Squares, Traces, TracedOnce}
 use Rattle.join.specs.Steps.{triple}
 use Rattle.join.proofs.Order.{triple-equal}
 use Rattle.join.proofs.Centres.{way}
@@ -93,7 +93,7 @@ module _ (a z T : Pair) where
   traced-join w d h k = record {
     first = sym (multiple-cancel 3 (omega arith) (leg 0)) ∙ h .first;
     last = sym (multiple-cancel 3 (omega arith) (leg 4)) ∙ h .last;
-    travel = ap (multiple (pos 3)) (sym (h .travel)) ∙ spread ∙ ap total legs ∙ gathered;
+    travel = ap (multiple (pos 3)) (sym (h .travel)) ∙ spread ∙ ap travelOf legs ∙ gathered;
     kept = k;
   }
     where
@@ -103,11 +103,11 @@ module _ (a z T : Pair) where
       leg : (i : ℕ) → at pairs (map (multiple (pos 3)) (legList d)) i ≡ at pairs (tripled w) i
       leg i = ap (λ (l : List Pair). at pairs l i) legs
 
-      spread : multiple (pos 3) (total (legList d)) ≡ total (map (multiple (pos 3)) (legList d))
+      spread : multiple (pos 3) (travelOf (legList d)) ≡ travelOf (map (multiple (pos 3)) (legList d))
       spread = solve-pairs (legList d) (3 ·· (the 0 ⊞ (the 1 ⊞ (the 2 ⊞ (the 3 ⊞ (the 4 ⊞ nought))))))
           (3 ·· the 0 ⊞ (3 ·· the 1 ⊞ (3 ·· the 2 ⊞ (3 ·· the 3 ⊞ (3 ·· the 4 ⊞ nought))))) tt tt
 
-      gathered : total (tripled w) ≡ travelled w
+      gathered : travelOf (tripled w) ≡ travelled w
       gathered = solve-pairs (pairsOf w) (t0 ⊞ (t1 ⊞ (t2 ⊞ (t3 ⊞ (t4 ⊞ nought))))) way tt tt
 
   module _ (ws : List Triple) (all : AllJoins a z T ws) where
@@ -157,7 +157,7 @@ module _ (a z T : Pair) where
       q : Pair
       q = times (w .w1) (w .w2)
 
-      whole : total (legList (legsOf w)) ≡ T
+      whole : travelOf (legList (legsOf w)) ≡ T
       whole = solve-pairs (a ∷ p ∷ T ∷ q ∷ z ∷ []) (the 0 ⊞ (the 1 ⊞ (the 2 ⊟ (the 0 ⊞ the 1 ⊞ (the 3 ⊞ the 4)) ⊞ (the 3 ⊞ (the 4 ⊞ nought))))) (the 2) tt tt
 
       middle : multiple (pos 3) (minus T (plus (plus a p) (plus q z))) ≡ plus (multiple (pos 2) (times (w .w1) (w .w1))) (times (w .w0) (w .w2))

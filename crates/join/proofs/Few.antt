@@ -12,7 +12,7 @@ use mathlib.Core.Logic.{_⊎_, inl, inr}
 use Prim.Native.Nat.{ℕ, _+_, _≤_}
 use native.Mathlib.Omega.{arith}
 use lib.ListN.{length}
-use Rattle.join.specs.Listing.{Triple, Sorted, Member}
+use Rattle.join.specs.Promise.{Triple, Sorted, Member}
 use Rattle.join.proofs.Order.{head-apart, tail-sorted}
 
 abbrev pub Distinct : List Triple → Type 0

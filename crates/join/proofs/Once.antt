@@ -9,7 +9,7 @@ use Rattle.area.proofs.Promises.{first-or-in-once}
 use Rattle.pair.specs.declared.Pair.{Pair}
 use Rattle.join.specs.declared.JoinAnswer.{JoinAnswer}
 use Rattle.join.specs.declared.JoinAnswer.the-variants as answers
-use Rattle.join.specs.Listing.{answerOfJoins, Joined}
+use Rattle.join.specs.Promise.{answerOfJoins, Joined}
 use Rattle.join.proofs.Order.{lists-once}
 
 answer-once : (r s : JoinAnswer) → answerOfJoins r ≡ answerOfJoins s → r ≡ s

@@ -11,7 +11,7 @@ use mathlib.Core.List.{List, [], _∷_, _++_}
 use mathlib.Core.Logic.{_⊎_, inl, inr, ⊎-elim}
 use lib.IntN.{ℤ}
 use Rattle.whole.proofs.Linear.{linear}
-use Rattle.join.specs.Listing.{Triple, Below, key, Sorted, Member, Lists}
+use Rattle.join.specs.Promise.{Triple, Below, key, Sorted, Member, Lists}
 
 pub triple-equal : {u v : Triple} → u .w0 ≡ v .w0 → u .w1 ≡ v .w1 → u .w2 ≡ v .w2 → u ≡ v
 triple-equal p q r = λ i. record { w0 = p i; w1 = q i; w2 = r i }

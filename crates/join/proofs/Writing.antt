@@ -13,8 +13,8 @@ use lib.IntN.{ℤ}
 use lib.ListN.{length, length-append, take}
 use lib.Seq.{take-at}
 use borrow.Rule.Slice.PartMut.{putMid, postOf}
-use Rattle.join.specs.Listing.{Triple, numbers}
-use Rattle.join.specs.Steps.{Begins, Writes}
+use Rattle.join.specs.Promise.{Triple, numbers}
+use Rattle.join.specs.Steps.{Begins, WritesTriples}
 use Rattle.join.proofs.Order.{Before, lists-as, lists-none, lists-one, lists-both}
 
 -- ---- the numbers of a list
@@ -30,7 +30,7 @@ numbers-append (u ∷ us) vs = ap (λ (l : List ℤ). u .w0 .re ∷ u .w0 .im �
 
 -- ---- what is written
 module _ {n : ℕ} {P : Triple → Type 0} {place : ℕ} {area : List ℤ} where
-  pub writes-none : ((w : Triple) → P w → ⊥) → Writes n P place area area place
+  pub writes-none : ((w : Triple) → P w → ⊥) → WritesTriples n P place area area place
   unfolding numbers
   writes-none h = record {
     triples = [];
@@ -43,7 +43,7 @@ module _ {n : ℕ} {P : Triple → Type 0} {place : ℕ} {area : List ℤ} where
 
 -- the part from the place on comes back as ys
 pub writes-one : {P : Triple → Type 0} (place k : ℕ) (u : Triple) (tail area ys : List ℤ) → P u → ((w : Triple) → P w → w ≡ u)
-    → ys ≡ numbers (u ∷ []) ++ tail → length (putMid place k area ys) ≡ length area → Writes 1 P place area (putMid place k area ys) (place + 6)
+    → ys ≡ numbers (u ∷ []) ++ tail → length (putMid place k area ys) ≡ length area → WritesTriples 1 P place area (putMid place k area ys) (place + 6)
 writes-one place k u tail area ys p only e s = record {
   triples = u ∷ [];
   lists = lists-one u p only;
@@ -59,7 +59,7 @@ writes-one place k u tail area ys p only e s = record {
 }
 
 pub writes-both : {P Q : Triple → Type 0} {m n p q r : ℕ} {a b c : List ℤ} → ((u v : Triple) → P u → Q v → Before u v)
-    → Writes m P p a b q → Writes n Q q b c r → Writes (m + n) (λ w. P w ⊎ Q w) p a c r
+    → WritesTriples m P p a b q → WritesTriples n Q q b c r → WritesTriples (m + n) (λ w. P w ⊎ Q w) p a c r
 writes-both {c} h l k = record {
   triples = l .triples ++ k .triples;
   lists = lists-both h (l .lists) (k .lists);
@@ -73,7 +73,7 @@ writes-both {c} h l k = record {
 }
 
 pub writes-as : {P Q : Triple → Type 0} {m n place next : ℕ} {before after : List ℤ} → m ≤ n → ((w : Triple) → P w → Q w) → ((w : Triple) → Q w → P w)
-    → Writes m P place before after next → Writes n Q place before after next
+    → WritesTriples m P place before after next → WritesTriples n Q place before after next
 writes-as l f g w = record {
   triples = w .triples;
   lists = lists-as f g (w .lists);
@@ -83,5 +83,5 @@ writes-as l f g w = record {
   begins = w .begins;
 }
 
-pub writes-same : {P Q : Triple → Type 0} {n place next : ℕ} {before after : List ℤ} → P ≡ Q → Writes n P place before after next → Writes n Q place before after next
-writes-same {n} {place} {next} {before} {after} e = subst (λ (R : Triple → Type 0). Writes n R place before after next) e
+pub writes-same : {P Q : Triple → Type 0} {n place next : ℕ} {before after : List ℤ} → P ≡ Q → WritesTriples n P place before after next → WritesTriples n Q place before after next
+writes-same {n} {place} {next} {before} {after} e = subst (λ (R : Triple → Type 0). WritesTriples n R place before after next) e

@@ -1,6 +1,6 @@
 -- The curves of the triples, by their legs.
 --   QuinticLegs, legList     the five legs of a quintic
---   total                    the sum of a list of pairs
+--   travelOf                 the sum of a list of pairs
 --   tripled w                three times each leg that w makes
 --   Squares w d              the leg polynomial of the legs is the square of the quadratic with Bernstein coefficients w0, w1, w2
 --   Traces a z T w d         besides, the legs go from a to z over the travel T
@@ -8,11 +8,11 @@
 use mathlib.Core.Path.{_≡_}
 use mathlib.Core.List.{List, [], _∷_}
 use lib.IntN.{pos}
-use Rattle.whole.specs.Poly.{Same, square}
+use Rattle.poly.specs.Polynomials.{Same, square}
 use Rattle.pair.specs.declared.Pair.{Pair}
 use Rattle.pair.specs.Pairs.{pairs, plus, times, multiple}
-use Rattle.curve.specs.Curves.{powerForm}
-use Rattle.join.specs.Listing.{Triple, Member}
+use Rattle.bernstein.specs.Powers.{powerForm}
+use Rattle.join.specs.Promise.{Triple, Member}
 
 pub record QuinticLegs : Type 0 where
   pub d0 : Pair
@@ -24,9 +24,9 @@ pub record QuinticLegs : Type 0 where
 abbrev pub legList : QuinticLegs → List Pair
 legList d = d .d0 ∷ d .d1 ∷ d .d2 ∷ d .d3 ∷ d .d4 ∷ []
 
-abbrev pub total : List Pair → Pair
-total [] = pairs .none
-total (d ∷ ds) = plus d (total ds)
+abbrev pub travelOf : List Pair → Pair
+travelOf [] = pairs .none
+travelOf (d ∷ ds) = plus d (travelOf ds)
 
 abbrev pub tripled : Triple → List Pair
 tripled w =
@@ -42,7 +42,7 @@ Squares w d = Same pairs (powerForm (legList d)) (square pairs (powerForm (w .w0
 pub record Traces (a z T : Pair) (w : Triple) (d : QuinticLegs) : Type 0 where
   pub first : d .d0 ≡ a
   pub last : d .d4 ≡ z
-  pub travel : total (legList d) ≡ T
+  pub travel : travelOf (legList d) ≡ T
   pub squares : Squares w d
 
 pub record TracedOnce (a z T : Pair) (ws : List Triple) (d : QuinticLegs) : Type 0 where

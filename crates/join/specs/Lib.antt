@@ -1,4 +1,4 @@
 -- The definitions that the contracts cite: the list of joins, the curves of its triples; `Steps` is for the parts of the program only.
-pub mod Listing
+pub mod Promise
 pub mod Curves
 pub mod Steps

@@ -5,9 +5,10 @@
 --   centre w0 w1 w2           4 w1 + 3 (w0 + w2)
 --   Quartered w0 n w2         the triples with these ends for which 4 w1 is n
 --   Half m w0 w2              the triples with these ends whose centre is a root of the discriminant
---   Sized                     the sizes that the arithmetic meets
+--   rootReach                 200, which no part of a root of a or z exceeds
+--   JoinSizes                 the sizes that the arithmetic meets
 --   Begins ns area            an area begins with these numbers
---   Writes n P …              the triples with P, at most n, are written at a place, behind what stood before it
+--   WritesTriples n P …       the triples with P, at most n, are written at a place, behind what stood before it
 use mathlib.Core.Path.{_≡_}
 use mathlib.Core.List.{List, _++_}
 use Prim.Native.Nat.{ℕ, _+_, _*_, _≤_}
@@ -15,7 +16,7 @@ use lib.IntN.{ℤ, pos}
 use lib.ListN.{length}
 use Rattle.pair.specs.declared.Pair.{Pair}
 use Rattle.pair.specs.Pairs.{plus, minus, times, multiple, PartsWithin}
-use Rattle.join.specs.Listing.{Triple, Lists, numbers}
+use Rattle.join.specs.Promise.{Triple, Lists, numbers}
 
 abbrev pub triple : Pair → Pair → Pair → Triple
 triple x y z = record { w0 = x; w1 = y; w2 = z }
@@ -39,15 +40,18 @@ pub record Half (m w0 w2 : Pair) (w : Triple) : Type 0 where
   pub last : w .w2 ≡ w2
   pub middle : times (centre w0 (w .w1) w2) (centre w0 (w .w1) w2) ≡ discriminant m w0 w2
 
-pub record Sized (m w0 w2 : Pair) : Type 0 where
+abbrev pub rootReach : ℕ
+rootReach = 200
+
+pub record JoinSizes (m w0 w2 : Pair) : Type 0 where
   pub rest : PartsWithin 240000 m
-  pub first : PartsWithin 200 w0
-  pub last : PartsWithin 200 w2
+  pub first : PartsWithin rootReach w0
+  pub last : PartsWithin rootReach w2
 
 abbrev pub Begins : List ℤ → List ℤ → Type 0
 Begins ns area = (tail : List ℤ) × (area ≡ ns ++ tail)
 
-pub record Writes (n : ℕ) (P : Triple → Type 0) (place : ℕ) (before after : List ℤ) (next : ℕ) : Type 0 where
+pub record WritesTriples (n : ℕ) (P : Triple → Type 0) (place : ℕ) (before after : List ℤ) (next : ℕ) : Type 0 where
   pub triples : List Triple
   pub lists : Lists P triples
   pub few : length triples ≤ n

@@ -6,10 +6,13 @@ ghost use lib.ListN.{length, drop};
 ghost use Rattle.whole.specs.Number.{Tells};
 ghost use Rattle.area.specs.Area.{Cleared};
 ghost use Rattle.join.specs.declared.JoinAnswer.the-variants as answers;
-ghost use Rattle.join.specs.Listing.{InRange, DeadEnd, Join, Joined, numbers};
-ghost use Rattle.join.specs.Steps.{triple, shift, discriminant, Quartered, Half, Sized, Writes};
+ghost use Rattle.join.specs.Promise.{EndsInRange, DeadEnd, Join, Joined, numbers};
+ghost use Rattle.join.specs.Steps.{triple, shift, discriminant, Quartered, Half, JoinSizes, WritesTriples};
 use area::clear;
+use curve::COORDINATE_REACH;
+use divisor::PairQuotient;
 use divisor::PairRoot;
+use divisor::over_whole;
 use divisor::root;
 use pair::Pair;
 use pair::difference;
@@ -20,8 +23,9 @@ use pair::product;
 use pair::sum;
 use pair::within;
 use refusal::Refusal;
-use whole::Exact;
-use whole::quotient;
+
+// How far a part of the travel may be from 0.
+const TRAVEL_REACH: u32 = 40000;
 
 // How many triples the area holds, or why there is no list.
 pub enum JoinAnswer {
@@ -30,15 +34,15 @@ pub enum JoinAnswer {
 }
 
 fn in_range(a: Pair, z: Pair, t: Pair) -> bool
-    ensures { λ r. ⌜ Tells (InRange a z t) r ⌝ }
+    ensures { λ r. ⌜ Tells (EndsInRange a z t) r ⌝ }
 {
-    if !within(a, 20000) {
+    if !within(a, COORDINATE_REACH) {
         return false;
     }
-    if !within(z, 20000) {
+    if !within(z, COORDINATE_REACH) {
         return false;
     }
-    if !within(t, 40000) {
+    if !within(t, TRAVEL_REACH) {
         return false;
     }
     true
@@ -75,23 +79,18 @@ fn put(area: &mut [i64], w0: Pair, w1: Pair, w2: Pair)
 // The triple whose middle is a quarter of n, if there is one, written at a place; the place behind it.
 fn put_quarter(area: &mut [i64], at: usize, w0: Pair, n: Pair, w2: Pair) -> usize
     requires { ⌜ at + 6 ≤ length (now area) ⌝ }
-    ensures { λ r. ⌜ Writes 1 (Quartered w0 n w2) at (now (area .entry)) (now (area .exit)) r ⌝ }
+    ensures { λ r. ⌜ WritesTriples 1 (Quartered w0 n w2) at (now (area .entry)) (now (area .exit)) r ⌝ }
 {
-    let x = n.re;
-    let y = n.im;
-    let Exact::Whole(u) = quotient(x, 4) else {
+    let PairQuotient::Whole(w1) = over_whole(n, 4) else {
         return at;
     };
-    let Exact::Whole(v) = quotient(y, 4) else {
-        return at;
-    };
-    put(&mut area[at..], w0, Pair { re: u, im: v }, w2);
+    put(&mut area[at..], w0, w1, w2);
     at + 6
 }
 
 // s^2 - 8 (m + w0 w2), of which 4 w1 + s is a root.
 fn square_of(m: Pair, s: Pair, w0: Pair, w2: Pair) -> Pair
-    requires { ⌜ Sized m w0 w2 × (s ≡ shift w0 w2) ⌝ }
+    requires { ⌜ JoinSizes m w0 w2 × (s ≡ shift w0 w2) ⌝ }
     ensures { λ r. ⌜ r ≡ discriminant m w0 w2 ⌝ }
 {
     let p = product(w0, w2);
@@ -101,8 +100,8 @@ fn square_of(m: Pair, s: Pair, w0: Pair, w2: Pair) -> Pair
 
 // The triples with these ends, the one with the lower middle first, written at a place; the place behind them.
 fn put_half(area: &mut [i64], at: usize, m: Pair, w0: Pair, w2: Pair) -> usize
-    requires { ⌜ Sized m w0 w2 × (at + 12 ≤ length (now area)) ⌝ }
-    ensures { λ r. ⌜ Writes 2 (Half m w0 w2) at (now (area .entry)) (now (area .exit)) r ⌝ }
+    requires { ⌜ JoinSizes m w0 w2 × (at + 12 ≤ length (now area)) ⌝ }
+    ensures { λ r. ⌜ WritesTriples 2 (Half m w0 w2) at (now (area .entry)) (now (area .exit)) r ⌝ }
 {
     let s = multiple(3, sum(w0, w2));
     let PairRoot::Root(d) = root(square_of(m, s, w0, w2)) else {
@@ -119,8 +118,8 @@ fn put_half(area: &mut [i64], at: usize, m: Pair, w0: Pair, w2: Pair) -> usize
 
 // Every join, written from the area's start; the place behind the last. The lower root of z comes first.
 fn put_all(area: &mut [i64], a: Pair, z: Pair, t: Pair) -> usize
-    requires { ⌜ InRange a z t × (DeadEnd a z → ⊥) × (24 ≤ length (now area)) ⌝ }
-    ensures { λ r. ⌜ Writes 4 (Join a z t) 0 (now (area .entry)) (now (area .exit)) r ⌝ }
+    requires { ⌜ EndsInRange a z t × (DeadEnd a z → ⊥) × (24 ≤ length (now area)) ⌝ }
+    ensures { λ r. ⌜ WritesTriples 4 (Join a z t) 0 (now (area .entry)) (now (area .exit)) r ⌝ }
 {
     let PairRoot::Root(w0) = root(a) else {
         return 0;

@@ -6,4 +6,6 @@ pub mod Counts
 pub mod Sizes
 pub mod Once
 pub mod Arcs
+pub mod Boole
+pub mod LengthSizes
 mod Examples

@@ -16,7 +16,7 @@ use Rattle.whole.proofs.Wholes.{atomsℤ, readℤ, read-pos, ringℤ}
 use Rattle.whole.proofs.Linear.{linear, minus-parts}
 use Rattle.whole.proofs.Signs.{Like, Unlike, like-flip, like-like}
 use Rattle.measure.specs.declared.Turning.{Turning}
-use Rattle.measure.specs.Turns.{turnAt, Ascending, Alternate, Changes, CountIs}
+use Rattle.measure.specs.Turns.{turnAt, Ascending, Alternate, SignChanges, CountIs}
 use Rattle.measure.proofs.Blends.{blend, along, start-like, ends-like}
 
 abbrev pub startOf : Turning → ℤ
@@ -92,13 +92,13 @@ module _ (x : Turning) where
   long-3 s (p ∷ q ∷ r ∷ t ∷ es) a h =
       absurd (four s p q r t (a .0) (a .1 .0) (a .1 .1 .0) (a .1 .1 .1 .0) (under t s es (a .1 .1 .1 .1)) (h .0) (h .1 .0) (h .1 .1 .0))
 
-  pub at-most-0 : ((s p q : ℕ) → p < q → q < s → Unlike (at-place s p) (at-place s q) → ⊥) → (j : ℕ) → Changes x j → j ≤ 0
+  pub at-most-0 : ((s p q : ℕ) → p < q → q < s → Unlike (at-place s p) (at-place s q) → ⊥) → (j : ℕ) → SignChanges x j → j ≤ 0
   at-most-0 never j c = omega (arith, long-1 never (c .s) (c .es) (c .inside) (c .alternate), c .many)
 
-  pub at-most-1 : (Like (startOf x) (endOf x) → ⊥) → (j : ℕ) → Changes x j → j ≤ 1
+  pub at-most-1 : (Like (startOf x) (endOf x) → ⊥) → (j : ℕ) → SignChanges x j → j ≤ 1
   at-most-1 never j c = omega (arith, long-2 never (c .s) (c .es) (c .inside) (c .alternate), c .many)
 
-  pub at-most-2 : (j : ℕ) → Changes x j → j ≤ 2
+  pub at-most-2 : (j : ℕ) → SignChanges x j → j ≤ 2
   at-most-2 j c = omega (arith, long-3 (c .s) (c .es) (c .inside) (c .alternate), c .many)
 
   -- ---- one count

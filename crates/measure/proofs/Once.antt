@@ -18,7 +18,7 @@ use Rattle.measure.specs.declared.InflectionAnswer.{InflectionAnswer}
 use Rattle.measure.specs.declared.InflectionAnswer.the-variants as I
 use Rattle.measure.specs.declared.Turning.{Turning}
 use Rattle.measure.specs.Turns.{Straight, CountIs, Inflects}
-use Rattle.measure.specs.Promises.{answerOfLength, answerOfInflections, LengthOf, InflectionsOf, Measured, Inflected}
+use Rattle.measure.specs.Promise.{answerOfLength, answerOfInflections, LengthOf, InflectionsOf, Measured, Inflected}
 use Rattle.measure.proofs.Most.{count-once}
 
 -- ---- length

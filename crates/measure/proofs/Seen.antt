@@ -18,7 +18,7 @@ use Rattle.whole.proofs.Order.{nonneg-times, positive-times, nonneg-square, non
 use Rattle.whole.proofs.Signs.{Like, Unlike, like-flip, unlike-flip, like-like, like-unlike, mixed-times, carried, unlike-some}
 use Rattle.poly.proofs.Wholes.{whole-zero?}
 use Rattle.measure.specs.declared.Turning.{Turning}
-use Rattle.measure.specs.Turns.{turnAt, Changes, Straight}
+use Rattle.measure.specs.Turns.{turnAt, SignChanges, Straight}
 use Rattle.measure.proofs.Blends.{blend, blend-flip}
 use Rattle.measure.proofs.Most.{startOf, middleOf, endOf, blendOf, turn-is}
 
@@ -99,7 +99,7 @@ zero-parts t0 t1 t2 i j k h = omega (
   times-parts t2 (pos k),
 )
 
-pub seen-none : (x : Turning) → Straight x ⊎ Changes x 0
+pub seen-none : (x : Turning) → Straight x ⊎ SignChanges x 0
 seen-none x =
     seen 1 (omega arith) (omega arith) (λ h. seen 2 (omega arith) (omega arith) (λ k. seen 3 (omega arith) (omega arith) (λ l. inl (straight h k l))))
   where
@@ -110,16 +110,16 @@ seen-none x =
         let c = zero-parts (x .t0) (x .t1) (x .t2) 16 12 9 l in
         (omega linear, omega linear, omega linear)
 
-    seen : (e : ℕ) → 0 < e → e < 4 → (turnAt x 4 e ≡ pos 0 → Straight x ⊎ Changes x 0) → Straight x ⊎ Changes x 0
+    seen : (e : ℕ) → 0 < e → e < 4 → (turnAt x 4 e ≡ pos 0 → Straight x ⊎ SignChanges x 0) → Straight x ⊎ SignChanges x 0
     seen e h k else = by (whole-zero? (turnAt x 4 e))
       where
-        by : Dec (turnAt x 4 e ≡ pos 0) → Straight x ⊎ Changes x 0
+        by : Dec (turnAt x 4 e ≡ pos 0) → Straight x ⊎ SignChanges x 0
         by (yes z) = else z
         by (no n) = inr (record { s = 4; es = e ∷ []; inside = (h, k); many = refl; alternate = n })
 
 -- ---- one change: the value beside the start has the sign of p, and that beside the end the sign of q
 module _ (x : Turning) where
-  pub seen-once : (m : ℕ) (p q : ℤ) → 1 < m → Like p (blendOf x (pos m) (pos 1)) → Like q (blendOf x (pos 1) (pos m)) → Unlike p q → Changes x 1
+  pub seen-once : (m : ℕ) (p q : ℤ) → 1 < m → Like p (blendOf x (pos m) (pos 1)) → Like q (blendOf x (pos 1) (pos m)) → Unlike p q → SignChanges x 1
   seen-once m p q l h k u =
       let f = turnAt x (1 + m) 1 in
       let g = turnAt x (1 + m) m in
@@ -129,7 +129,7 @@ module _ (x : Turning) where
 
   -- ---- two changes: where between the ends the value has the other sign than both
   module _ (l : Like (startOf x) (endOf x)) where
-    between : (m v e : ℕ) → 1 < e → e < m → 1 + m ≡ v + e → Far (startOf x) (middleOf x) (endOf x) m → Unlike (startOf x) (blendOf x (pos v) (pos e)) → Changes x 2
+    between : (m v e : ℕ) → 1 < e → e < m → 1 + m ≡ v + e → Far (startOf x) (middleOf x) (endOf x) m → Unlike (startOf x) (blendOf x (pos v) (pos e)) → SignChanges x 2
     between m v e h k s far u =
         let a = startOf x in
         let c = endOf x in
@@ -144,7 +144,7 @@ module _ (x : Turning) where
         record { s = 1 + m; es = 1 ∷ e ∷ m ∷ []; inside = (omega arith, (h, (k, omega arith))); many = refl; alternate = (before, (after, unlike-some g i after)) }
 
     -- at e : v = 2 a² : − a b
-    pub seen-twice : Unlike (startOf x) (middleOf x) → (startOf x *ℤ endOf x *ℤ pos 4) <ℤ (middleOf x *ℤ middleOf x) → Changes x 2
+    pub seen-twice : Unlike (startOf x) (middleOf x) → (startOf x *ℤ endOf x *ℤ pos 4) <ℤ (middleOf x *ℤ middleOf x) → SignChanges x 2
     seen-twice u d =
         let a = startOf x in
         let b = middleOf x in

@@ -6,10 +6,10 @@ use Rattle.whole.specs.Number.{Within}
 use Rattle.whole.proofs.Wholes.{readℤ, read-pos}
 use Rattle.whole.proofs.Bound.{done, _▸_, bounds, within}
 use Rattle.pair.specs.declared.Pair.{Pair}
-use Rattle.pair.specs.Pairs.{PartsWithin, AllWithin}
+use Rattle.pair.specs.Pairs.{PartsWithin, AllWithin, cross}
 use Rattle.verdict.specs.declared.Quadratic.{Quadratic}
 use Rattle.verdict.specs.Verdicts.{quadratic}
-use Rattle.measure.specs.Turns.{cross, turningOf}
+use Rattle.measure.specs.Turns.{turningOf}
 use Rattle.measure.specs.Steps.{Moderate}
 
 pub cross-within : (a b : Pair) → PartsWithin 2000 a → PartsWithin 2000 b → Within 8000000 (cross a b)

@@ -1,5 +1,5 @@
 -- The definitions that the contracts cite: lengths, turning polynomials, the promises; `Steps` is for the parts of the program only.
 pub mod Lengths
 pub mod Turns
-pub mod Promises
+pub mod Promise
 pub mod Steps

@@ -1,26 +1,23 @@
 -- The turning polynomial of a pre-image, and how often it changes its sign between 0 and 1.
---   cross, turningOf           x_jk of two coefficients of w; x01 + 2·x02·t + x12·t²
+--   turningOf                  x01 + 2·x02·t + x12·t², where x_jk is the cross product of two coefficients of w
 --   turnAt x s e               s² times its value at the fraction e / s
 --   Ascending low s es         low < e₀ < e₁ < .. < s
 --   Alternate                  none of the numbers is zero, and each has another sign than the one before
---   Changes x k                k changes of sign, seen at k + 1 fractions over one denominator
+--   SignChanges x k            k changes of sign, seen at k + 1 fractions over one denominator
 --   Straight, CountIs          zero throughout; the greatest k, and 0 where it is zero throughout
 --   Inflects w i               i is the turning polynomial of w with its count and its mark
 use mathlib.Core.Path.{_≡_}
 use mathlib.Core.List.{List, [], _∷_, map}
 use mathlib.Core.Logic.{_≢_, _⊎_}
 use Prim.Native.Nat.{ℕ, suc, _≤_, _<_, _*_}
-use lib.IntN.{ℤ, pos, _+ℤ_, _-ℤ_, _*ℤ_}
+use lib.IntN.{ℤ, pos, _+ℤ_, _*ℤ_}
 use lib.Signed.{_<ℤ_}
 use lib.ListN.{length}
 use Rattle.whole.specs.Number.{Tells}
-use Rattle.pair.specs.declared.Pair.{Pair}
+use Rattle.pair.specs.Pairs.{cross}
 use Rattle.verdict.specs.declared.Quadratic.{Quadratic}
 use Rattle.measure.specs.declared.Turning.{Turning}
 use Rattle.measure.specs.declared.counting.Inflections.{Inflections}
-
-abbrev pub cross : Pair → Pair → ℤ
-cross a b = a .re *ℤ b .im -ℤ b .re *ℤ a .im
 
 abbrev pub turningOf : Quadratic → Turning
 turningOf w = record { t0 = cross (w .b0) (w .b1); t1 = cross (w .b0) (w .b2) *ℤ pos 2; t2 = cross (w .b1) (w .b2) }
@@ -37,7 +34,7 @@ Alternate [] = ⊥
 Alternate (v ∷ []) = v ≢ pos 0
 Alternate (u ∷ v ∷ vs) = ((u *ℤ v) <ℤ pos 0) × Alternate (v ∷ vs)
 
-pub record Changes (x : Turning) (k : ℕ) : Type 0 where
+pub record SignChanges (x : Turning) (k : ℕ) : Type 0 where
   pub s : ℕ
   pub es : List ℕ
   pub inside : Ascending 0 s es
@@ -48,8 +45,8 @@ abbrev pub Straight : Turning → Type 0
 Straight x = (x .t0 ≡ pos 0) × (x .t1 ≡ pos 0) × (x .t2 ≡ pos 0)
 
 pub record CountIs (x : Turning) (k : ℕ) : Type 0 where
-  pub reached : (Straight x × (k ≡ 0)) ⊎ Changes x k
-  pub most : (j : ℕ) → Changes x j → j ≤ k
+  pub reached : (Straight x × (k ≡ 0)) ⊎ SignChanges x k
+  pub most : (j : ℕ) → SignChanges x j → j ≤ k
 
 pub record Inflects (w : Quadratic) (i : Inflections) : Type 0 where
   pub turning : i .turning ≡ turningOf w

@@ -1,12 +1,12 @@
 // The turning polynomial of a pre-image, and how often it changes its sign between 0 and 1.
 use crate::Turning;
-use pair::Pair;
+use pair::cross;
 use verdict::Quadratic;
 ghost use mathlib.Core.Path.{_≡_};
 ghost use Rattle.whole.specs.Number.{Tells};
-ghost use Rattle.pair.specs.Pairs.{PartsWithin, AllWithin};
+ghost use Rattle.pair.specs.Pairs.{AllWithin};
 ghost use Rattle.verdict.specs.Verdicts.{quadratic};
-ghost use Rattle.measure.specs.Turns.{cross, turningOf, Straight, CountIs, Inflects};
+ghost use Rattle.measure.specs.Turns.{turningOf, Straight, CountIs, Inflects};
 ghost use Rattle.measure.specs.Steps.{Moderate};
 
 // How often the turning polynomial changes its sign, and whether it is zero throughout.
@@ -14,18 +14,6 @@ pub struct Inflections {
     pub turning: Turning,
     pub count: u8,
     pub straight: bool,
-}
-
-// x_jk of two coefficients of w.
-fn cross(a: Pair, b: Pair) -> i64
-    requires { ⌜ PartsWithin 2000 a × PartsWithin 2000 b ⌝ }
-    ensures { λ r. ⌜ r ≡ cross a b ⌝ }
-{
-    let ax = a.re;
-    let ay = a.im;
-    let bx = b.re;
-    let by = b.im;
-    ax * by - bx * ay
 }
 
 fn turning(w: Quadratic) -> Turning

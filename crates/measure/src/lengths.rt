@@ -5,7 +5,7 @@ use verdict::Square;
 ghost use mathlib.Core.Path.{_≡_};
 ghost use Rattle.whole.specs.Number.{wholes};
 ghost use Rattle.root.specs.Search.{Each};
-ghost use Rattle.root.specs.Roots.{quartic, Small};
+ghost use Rattle.root.specs.Promise.{quartic, Small};
 ghost use Rattle.measure.specs.Lengths.{cubicA, quinticA, lengthOf};
 
 // sqrt(c) a / b

@@ -10,7 +10,7 @@ pub use lengths::length_by;
 use refusal::Refusal;
 use verdict::PreimageAnswer;
 use verdict::preimage_of;
-ghost use Rattle.measure.specs.Promises.{Measured, Inflected};
+ghost use Rattle.measure.specs.Promise.{Measured, Inflected};
 
 // t0 + t1 t + t2 t^2
 pub struct Turning {

@@ -20,10 +20,11 @@ use Rattle.area.specs.Area.{Cleared}
 use Rattle.area.proofs.Promises.{refused-in, given-in, first-or-in-by}
 use Rattle.pair.specs.declared.Pair.{Pair}
 use Rattle.root.specs.declared.Quartic.{Quartic}
-use Rattle.root.specs.Roots.{quartic}
+use Rattle.root.specs.Promise.{quartic}
 use Rattle.curve.specs.declared.Curve.{Curve}
 use Rattle.curve.specs.Curves.{pointsOf, legPolynomial}
 use Rattle.curve.proofs.LegPolynomial.{pointsOf-length}
+use Rattle.curve.specs.Sizes.{coordinateReach}
 use Rattle.verdict.specs.declared.Preimage.{Preimage}
 use Rattle.verdict.specs.declared.PreimageAnswer.the-variants as P
 use Rattle.verdict.specs.Promise.{still, not-ph, no-preimage, preimage-causes, Preimaged}
@@ -34,7 +35,7 @@ use Rattle.offset.specs.declared.Denominator.{Denominator}
 use Rattle.offset.specs.declared.Denominator.the-variants as W
 use Rattle.offset.specs.declared.OffsetAnswer.{OffsetAnswer}
 use Rattle.offset.specs.declared.OffsetAnswer.the-variants.{Written, Refused}
-use Rattle.offset.specs.Offsets.{offsetCurve, numbersOf, degreeOf, needs, offsetNumbers, beyond, no-root, no-room, curve-causes, OffsetBy}
+use Rattle.offset.specs.Promise.{offsetCurve, pointNumbers, offsetDegree, needs, offsetNumbers, beyond, no-root, no-room, curve-causes, OffsetBy}
 use Rattle.offset.specs.Steps.{RootAsked, no-square, answerOfDenominator, IsRooted, Denominated, PutIn}
 
 module _ (curve : Curve) where
@@ -56,10 +57,10 @@ module _ (curve : Curve) where
 
   -- ---- W
   module _ (h : ℤ) where
-    pub denominated-beyond : (Within 20000 h → ⊥) → Denominated curve h (W.Refused R.Range)
+    pub denominated-beyond : (Within coordinateReach h → ⊥) → Denominated curve h (W.Refused R.Range)
     denominated-beyond n = (inl (λ both. n (both .1), refl), refl)
 
-    module _ (w : Within 20000 h) where
+    module _ (w : Within coordinateReach h) where
       -- the causes of the pre-image, with h in the range
       abbrev causes : List Cause
       causes = beyond curve h ∷ still ps ∷ not-ph ps ∷ no-preimage ps ∷ []
@@ -96,10 +97,10 @@ module _ (curve : Curve) where
           has = record { m = g .has .m; root = g .has .root; is = e ∙ ap (λ u. offsetNumbers curve (offsetCurve ps u h)) (g .has .is) };
         })
 
-numbersOf-length : (points : ℕ) (w x y : ℕ → ℤ) → length (numbersOf points w x y) ≡ 3 * points
-unfolding numbersOf
+numbersOf-length : (points : ℕ) (w x y : ℕ → ℤ) → length (pointNumbers points w x y) ≡ 3 * points
+unfolding pointNumbers
 numbersOf-length zero w x y = refl
 numbersOf-length (suc points) w x y = omega (arith, numbersOf-length points (λ k. w (suc k)) (λ k. x (suc k)) (λ k. y (suc k)))
 
 pub written-needs : (curve : Curve) (h : ℤ) {before after : List ℤ} {n : ℕ} → OffsetBy curve h before after (Written n) → n ≡ needs curve
-written-needs curve h o = let (ns, of, e, f) = given-in o in e ∙ ap length (of .has .is) ∙ numbersOf-length (suc (degreeOf curve)) _ _ _
+written-needs curve h o = let (ns, of, e, f) = given-in o in e ∙ ap length (of .has .is) ∙ numbersOf-length (suc (offsetDegree curve)) _ _ _

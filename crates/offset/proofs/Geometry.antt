@@ -5,31 +5,33 @@
 --   offset-blended       the numbers are the Bernstein coefficients of W, X and Y, times the scale
 use mathlib.Core.Path.{_≡_, refl, sym, ap, ap₂, _∙_}
 use mathlib.Core.List.{List, [], _∷_, map}
-use Prim.Native.Nat.{ℕ, zero, suc, _+_, _-_, _≤_}
+use Prim.Native.Nat.{ℕ, _+_, _-_}
 use native.Mathlib.Omega.{arith}
-use lib.IntN.{ℤ, pos, negsuc, negℤ, natAbs, _+ℤ_, _*ℤ_, *ℤ-zero}
+use lib.IntN.{ℤ, pos, negsuc, negℤ, _+ℤ_, _*ℤ_}
 use lib.ListN.{length}
-use Rattle.whole.specs.Poly.{at, Same, sum, scaled, product, square, choose}
+use Rattle.whole.specs.Coefficients.{at}
+use Rattle.poly.specs.Polynomials.{Same, sum, scaled, product, square}
 use Rattle.whole.specs.Number.{wholes}
-use Rattle.whole.proofs.Wholes.{wholes-ring, atomsℤ, readℤ, read-negsuc, ringℤ, *ℤ-cancel}
+use Rattle.whole.proofs.Wholes.{wholes-ring, atomsℤ, readℤ, read-negsuc, ringℤ}
 use Rattle.whole.proofs.Signs.{negative-square}
 use Rattle.poly.specs.Terms.{Above}
 use Rattle.poly.proofs.Lists.{at-sum, at-scaled, sum-comm, sum-same, square-same, scaled-sum, square-scaled}
 use Rattle.poly.proofs.Forms.{form}
 use Rattle.poly.proofs.Top.{product-above, scaled-above}
 use Rattle.pair.specs.declared.Pair.{Pair}
-use Rattle.pair.specs.Pairs.{pairs, multiple}
-use Rattle.pair.proofs.Parts.{pair-equal}
-use Rattle.root.specs.Roots.{quartic}
+use Rattle.pair.specs.Pairs.{pairs}
+use Rattle.root.specs.Promise.{quartic}
+use Rattle.bernstein.specs.Binomials.{choose, bernstein}
+use Rattle.bernstein.specs.Powers.{powerForm}
+use Rattle.bernstein.proofs.PowerForms.{powerForm-above, Linear, re-part, im-part, at-linear}
+use Rattle.bernstein.proofs.Coefficients.{bernstein-value}
 use Rattle.curve.specs.declared.Curve.{Curve}
 use Rattle.curve.specs.declared.Curve.the-variants.{Cubic, Quintic}
-use Rattle.curve.specs.Curves.{pointsOf, powerForm, legPolynomial, reals, imaginaries, squaredLength}
-use Rattle.curve.proofs.LegPolynomial.{Part, re-part, im-part, legPolynomial-above}
-use Rattle.curve.proofs.Derivative.{derivative}
+use Rattle.curve.specs.Curves.{pointsOf, legPolynomial, reals, imaginaries, normPolynomial}
+use Rattle.curve.proofs.LegPolynomial.{legPolynomial-above}
 use Rattle.verdict.proofs.Multiples.{squared-above}
-use Rattle.offset.specs.Offsets.{bernstein, Rational, offsetCurve, degreeOf, scaleOf, OffsetOf}
-use Rattle.offset.proofs.Paths.{at-part}
-use Rattle.offset.proofs.Bernstein.{bernstein-value, whole-weights}
+use Rattle.offset.specs.Promise.{Rational, offsetCurve, offsetDegree, offsetScale, OffsetOf}
+use Rattle.offset.proofs.Paths.{whole-weights}
 
 -- p − q
 abbrev pub difference : List ℤ → List ℤ → List ℤ
@@ -64,8 +66,8 @@ module _ (ps : List Pair) (W : List ℤ) (h : ℤ) where
     left-over (product wholes W (imaginaries (powerForm ps))) (scaled wholes (negℤ h) (reals D)),
   )
 
-  pub offset-distance : Same wholes (sum wholes (square wholes across) (square wholes upward)) (scaled wholes (h *ℤ h) (squaredLength D))
-  unfolding squaredLength
+  pub offset-distance : Same wholes (sum wholes (square wholes across) (square wholes upward)) (scaled wholes (h *ℤ h) (normPolynomial D))
+  unfolding normPolynomial
   offset-distance k =
       sum-same wholes-ring (square wholes across) (scaled wholes (h *ℤ h) (square wholes (imaginaries D))) (square wholes upward) (scaled wholes (h *ℤ h) (square wholes (reals D))) across-is upward-is k
       ∙ sum-comm wholes-ring (scaled wholes (h *ℤ h) (square wholes (imaginaries D))) (scaled wholes (h *ℤ h) (square wholes (reals D))) k
@@ -81,11 +83,7 @@ module _ (ps : List Pair) (W : List ℤ) (h : ℤ) where
           ∙ ap (λ n. at wholes (scaled wholes n (square wholes (reals D))) j) (negative-square h)
 
 -- ---- an offset
-two-points : (curve : Curve) → 2 ≤ length (pointsOf curve)
-two-points (Cubic c) = omega arith
-two-points (Quintic c) = omega arith
-
-degree : (curve : Curve) → length (pointsOf curve) - 2 + (length (pointsOf curve) - 1) ≡ degreeOf curve
+degree : (curve : Curve) → length (pointsOf curve) - 2 + (length (pointsOf curve) - 1) ≡ offsetDegree curve
 degree (Cubic c) = refl
 degree (Quintic c) = refl
 
@@ -99,32 +97,15 @@ module _ (curve : Curve) (h : ℤ) (ns : List ℤ) (i : OffsetOf curve h ns) whe
   abbrev weight : List ℤ
   weight = scaled wholes (pos (i .has .m)) q
 
-  pub offset-squared : Same wholes (square wholes weight) (squaredLength (legPolynomial points))
+  pub offset-squared : Same wholes (square wholes weight) (normPolynomial (legPolynomial points))
   offset-squared k =
       square-scaled wholes-ring (pos (i .has .m)) q k
       ∙ ap (λ c. at wholes (scaled wholes c (square wholes q)) k) (sym (i .has .root))
       ∙ sym (i .is-preimage .square-of .squared k)
 
   -- ---- degrees
-  part-above : {part : Pair → ℤ} → Part part → (L : List Pair) (n : ℕ) → Above pairs (at pairs L) n → Above wholes (at wholes (map part L)) n
-  part-above {part} P L n u k l = at-part P L k ∙ ap part (u k l) ∙ P .of-none
-
-  powerForm-above : Above pairs (at pairs (powerForm points)) (length points - 1)
-  powerForm-above zero l = absurd (omega arith)
-  powerForm-above (suc k) l = pair-equal (part re-part) (part im-part)
-    where
-      none : at pairs (legPolynomial points) k ≡ pairs .none
-      none = legPolynomial-above points k (omega (arith, two-points curve))
-
-      part : {part : Pair → ℤ} → Part part → part (at pairs (powerForm points) (suc k)) ≡ pos 0
-      part {part} P =
-          *ℤ-cancel (pos (suc k)) (λ z. let n : suc k ≡ 0 = ap natAbs z in omega arith)
-          (sym (P .of-multiple (pos (suc k)) (at pairs (powerForm points) (suc k)))
-          ∙ ap part (derivative points k ∙ ap (multiple (pos (length points - 1))) none)
-          ∙ P .of-multiple (pos (length points - 1)) (pairs .none)
-          ∙ ap (λ z. pos (length points - 1) *ℤ z) (P .of-none)
-          ∙ *ℤ-zero (pos (length points - 1))
-          ∙ sym (*ℤ-zero (pos (suc k))))
+  part-above : {part : Pair → ℤ} → Linear wholes-ring part → (L : List Pair) (n : ℕ) → Above pairs (at pairs L) n → Above wholes (at wholes (map part L)) n
+  part-above {part} P L n u k l = at-linear P L k ∙ ap part (u k l) ∙ P .of-none
 
   weight-above : Above wholes (at wholes weight) (length points - 2)
   weight-above =
@@ -132,22 +113,22 @@ module _ (curve : Curve) (h : ℤ) (ns : List ℤ) (i : OffsetOf curve h ns) whe
       (squared-above (legPolynomial points) (length points - 2) (i .preimage .square .c) q (legPolynomial-above points) (i .is-preimage .square-of .positive) (i .is-preimage .square-of .squared))
 
   -- W times a part of r, and h times a part of D
-  row-above : {part part′ : Pair → ℤ} → Part part → Part part′ → (h : ℤ)
-      → Above wholes (at wholes (sum wholes (product wholes weight (map part (powerForm points))) (scaled wholes h (map part′ (legPolynomial points))))) (degreeOf curve)
+  row-above : {part part′ : Pair → ℤ} → Linear wholes-ring part → Linear wholes-ring part′ → (h : ℤ)
+      → Above wholes (at wholes (sum wholes (product wholes weight (map part (powerForm points))) (scaled wholes h (map part′ (legPolynomial points))))) (offsetDegree curve)
   row-above {part} {part′} P P′ h k l =
       at-sum wholes-ring (product wholes weight (map part (powerForm points))) (scaled wholes h (map part′ (legPolynomial points))) k
       ∙ ap₂ _+ℤ_
-      (product-above wholes-ring weight (map part (powerForm points)) (length points - 2) (length points - 1) weight-above (part-above P (powerForm points) (length points - 1) powerForm-above) k (omega (arith, degree curve)))
+      (product-above wholes-ring weight (map part (powerForm points)) (length points - 2) (length points - 1) weight-above (part-above P (powerForm points) (length points - 1) (powerForm-above points)) k (omega (arith, degree curve)))
       (scaled-above wholes-ring h (map part′ (legPolynomial points)) (length points - 2) (part-above P′ (legPolynomial points) (length points - 2) (legPolynomial-above points)) k (omega (arith, degree curve)))
 
   -- ---- Bernstein coefficients
   abbrev pub Blended : List ℤ → Type 0
   Blended a =
-      (u v : ℤ) → form wholes u v (degreeOf curve) (λ k. pos (choose (degreeOf curve) k) *ℤ bernstein (degreeOf curve) (scaleOf curve) a k)
-      ≡ pos (scaleOf curve) *ℤ form wholes (u +ℤ v) v (degreeOf curve) (at wholes a)
+      (u v : ℤ) → form wholes u v (offsetDegree curve) (λ k. pos (choose (offsetDegree curve) k) *ℤ bernstein (offsetDegree curve) (offsetScale curve) a k)
+      ≡ pos (offsetScale curve) *ℤ form wholes (u +ℤ v) v (offsetDegree curve) (at wholes a)
 
-  blended : (a : List ℤ) → Above wholes (at wholes a) (degreeOf curve) → Blended a
-  blended a u = bernstein-value (degreeOf curve) (scaleOf curve) (whole-weights curve) a u
+  blended : (a : List ℤ) → Above wholes (at wholes a) (offsetDegree curve) → Blended a
+  blended a u = bernstein-value (offsetDegree curve) (offsetScale curve) (whole-weights curve) a u
 
   pub offset-blended : let o = offsetCurve points weight h in Blended (o .w) × Blended (o .x) × Blended (o .y)
   offset-blended = (

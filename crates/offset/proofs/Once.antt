@@ -6,16 +6,16 @@ use Prim.Native.Nat.{ℕ}
 use lib.IntN.{ℤ, pos, natAbs}
 use Rattle.refusal.proofs.Answers.{refuse-once}
 use Rattle.whole.specs.Number.{wholes}
-use Rattle.whole.specs.Poly.{scaled}
+use Rattle.poly.specs.Polynomials.{scaled}
 use Rattle.area.proofs.Promises.{first-or-in-once}
 use Rattle.pair.proofs.Laws.{root-equal}
-use Rattle.root.specs.Roots.{quartic}
+use Rattle.root.specs.Promise.{quartic}
 use Rattle.curve.specs.declared.Curve.{Curve}
 use Rattle.curve.specs.Curves.{pointsOf, legPolynomial}
 use Rattle.verdict.proofs.Once.{one-preimage}
 use Rattle.offset.specs.declared.OffsetAnswer.{OffsetAnswer}
 use Rattle.offset.specs.declared.OffsetAnswer.the-variants.{Written, Refused}
-use Rattle.offset.specs.Offsets.{offsetCurve, offsetNumbers, OffsetOf, answerOfOffset, OffsetBy}
+use Rattle.offset.specs.Promise.{offsetCurve, offsetNumbers, OffsetOf, answerOfOffset, OffsetBy}
 
 answer-once : (r s : OffsetAnswer) → answerOfOffset r ≡ answerOfOffset s → r ≡ s
 answer-once (Written m) (Written n) e = cc

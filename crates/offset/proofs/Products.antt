@@ -2,7 +2,7 @@
 --   rowOf                   the coefficients of w x + h d
 --   rowSize                 where the coefficients of w, x, h and d are within their bounds, those of w x + h d are within these
 --   rowSize-most            of which none is above n · 3.2 · 10¹³ and the size of h d, for n powers of w
---   Stage                   a Ten that holds w x + h d, where w and d have n coefficients
+--   Stage                   a Nonic that holds w x + h d, where w and d have n coefficients
 --   stage-none, stage-step, stage-within     `joined` makes the next stage of it; its size
 --   stage-row               the last stage is the row
 --   row-sized               so a row that is asked for is within these sizes
@@ -13,7 +13,8 @@ use native.Mathlib.Nat.{mul-le-mul}
 use native.Mathlib.Omega.{arith}
 use lib.IntN.{ℤ, pos, _+ℤ_, _*ℤ_, +ℤ-assoc, +ℤ-idl, *ℤ-zero}
 use lib.ListN.{length, getD, List·getD-eq-default}
-use Rattle.whole.specs.Poly.{at, scaled, product}
+use Rattle.whole.specs.Coefficients.{at}
+use Rattle.poly.specs.Polynomials.{scaled, product}
 use Rattle.whole.specs.Number.{wholes, Within}
 use Rattle.whole.proofs.Integers.{abs-times, abs-zero}
 use Rattle.whole.proofs.Wholes.{wholes-ring}
@@ -21,9 +22,11 @@ use Rattle.whole.proofs.Bound.{abs-plus}
 use Rattle.poly.proofs.Series.{Series, tail, conv, conv-none, conv-suc}
 use Rattle.poly.proofs.Lists.{at-sum, at-scaled, at-product}
 use Rattle.poly.proofs.Zeros.{at-zeros}
-use Rattle.offset.specs.declared.Six.{Six}
-use Rattle.offset.specs.declared.Ten.{Ten}
-use Rattle.offset.specs.Steps.{six, ten, joinedTo, RowAsked, IsRow}
+use Rattle.root.specs.Promise.{rootSize}
+use Rattle.curve.specs.Sizes.{coordinateReach}
+use Rattle.offset.specs.declared.Coordinate.{Coordinate}
+use Rattle.offset.specs.declared.Nonic.{Nonic}
+use Rattle.offset.specs.Steps.{coordinateOf, nonic, joinedTo, RowAsked, IsRow}
 
 abbrev pub rowOf : Series ℤ → Series ℤ → ℤ → Series ℤ → Series ℤ
 rowOf w x h d k = conv wholes w x k +ℤ h *ℤ d k
@@ -38,8 +41,8 @@ xSize k = getD (1600000 ∷ 1600000 ∷ 1600000 ∷ 1600000 ∷ 1600000 ∷ 1600
 
 abbrev pub rowSize : ℕ → ℕ → ℕ
 rowSize zero k = 0
-rowSize (suc n) zero = 20000000 * xSize zero + 25600000000
-rowSize (suc n) (suc k) = 20000000 * xSize (suc k) + rowSize n k
+rowSize (suc n) zero = rootSize * xSize zero + 25600000000
+rowSize (suc n) (suc k) = rootSize * xSize (suc k) + rowSize n k
 
 term-within : {a b z : ℤ} {A B Z : ℕ} → Within A a → Within B b → Within Z z → Within (A * B + Z) (a *ℤ b +ℤ z)
 term-within {a} {b} {z} h k l = record { size = omega (arith, abs-plus (a *ℤ b) z, abs-times a b, mul-le-mul (h .size) (k .size), l .size) }
@@ -47,8 +50,8 @@ term-within {a} {b} {z} h k l = record { size = omega (arith, abs-plus (a *ℤ b
 times-within : {a b : ℤ} {A B : ℕ} → Within A a → Within B b → Within (A * B) (a *ℤ b)
 times-within {a} {b} h k = record { size = omega (arith, abs-times a b, mul-le-mul (h .size) (k .size)) }
 
-module _ {x : Series ℤ} {h : ℤ} (hx : (k : ℕ) → Within (xSize k) (x k)) (hh : Within 20000 h) where
-  row-within : (n : ℕ) (w d : Series ℤ) → ((k : ℕ) → Within 20000000 (w k)) → ((k : ℕ) → Within 1280000 (d k)) → ((k : ℕ) → n ≤ k → w k ≡ pos 0)
+module _ {x : Series ℤ} {h : ℤ} (hx : (k : ℕ) → Within (xSize k) (x k)) (hh : Within coordinateReach h) where
+  row-within : (n : ℕ) (w d : Series ℤ) → ((k : ℕ) → Within rootSize (w k)) → ((k : ℕ) → Within 1280000 (d k)) → ((k : ℕ) → n ≤ k → w k ≡ pos 0)
       → ((k : ℕ) → n ≤ k → d k ≡ pos 0) → (k : ℕ) → Within (rowSize n k) (rowOf w x h d k)
   unfolding conv
   row-within zero w d hw hd zw zd k =
@@ -74,7 +77,7 @@ rowSize-most (suc n) zero = omega arith
 rowSize-most (suc n) (suc k) = omega (arith, xSize-most (suc k), rowSize-most n k)
 
 -- ---- the steps
-joined-suc : (p : Ten) (f : ℤ) (x : Six) (g : ℤ) → p .e9 ≡ pos 0 → (k : ℕ) → at wholes (ten (joinedTo p f x g)) (suc k) ≡ f *ℤ at wholes (six x) (suc k) +ℤ at wholes (ten p) k
+joined-suc : (p : Nonic) (f : ℤ) (x : Coordinate) (g : ℤ) → p .e9 ≡ pos 0 → (k : ℕ) → at wholes (nonic (joinedTo p f x g)) (suc k) ≡ f *ℤ at wholes (coordinateOf x) (suc k) +ℤ at wholes (nonic p) k
 joined-suc p f x g z zero = refl
 joined-suc p f x g z (suc zero) = refl
 joined-suc p f x g z (suc (suc zero)) = refl
@@ -93,28 +96,28 @@ joined-suc p f x g z (suc (suc (suc (suc (suc k))))) = upper k
     upper (suc (suc (suc (suc zero)))) = past (pos 0) ∙ ap (λ a. f *ℤ pos 0 +ℤ a) (sym z)
     upper (suc (suc (suc (suc (suc k))))) = past (pos 0)
 
--- a Ten that holds the row of w and d
-pub record Stage (x : Six) (h : ℤ) (n : ℕ) (p : Ten) (w d : List ℤ) : Type 0 where
+-- a Nonic that holds the row of w and d
+pub record Stage (x : Coordinate) (h : ℤ) (n : ℕ) (p : Nonic) (w d : List ℤ) : Type 0 where
   pub w-long : length w ≡ n
   pub d-long : length d ≡ n
-  pub w-small : (k : ℕ) → Within 20000000 (at wholes w k)
+  pub w-small : (k : ℕ) → Within rootSize (at wholes w k)
   pub d-small : (k : ℕ) → Within 1280000 (at wholes d k)
-  pub row : (k : ℕ) → at wholes (ten p) k ≡ rowOf (at wholes w) (at wholes (six x)) h (at wholes d) k
+  pub row : (k : ℕ) → at wholes (nonic p) k ≡ rowOf (at wholes w) (at wholes (coordinateOf x)) h (at wholes d) k
 
-abbrev pub none : Ten
+abbrev pub none : Nonic
 none = record { e0 = pos 0; e1 = pos 0; e2 = pos 0; e3 = pos 0; e4 = pos 0; e5 = pos 0; e6 = pos 0; e7 = pos 0; e8 = pos 0; e9 = pos 0 }
 
-pub stage-none : (x : Six) (h : ℤ) → Stage x h 0 none [] []
+pub stage-none : (x : Coordinate) (h : ℤ) → Stage x h 0 none [] []
 stage-none x h = record {
   w-long = refl;
   d-long = refl;
   w-small = λ k. record { size = zero-le };
   d-small = λ k. record { size = zero-le };
-  row = λ k. at-zeros wholes 10 k ∙ sym (ap₂ _+ℤ_ (conv-none wholes-ring (at wholes (six x)) k) (*ℤ-zero h));
+  row = λ k. at-zeros wholes 10 k ∙ sym (ap₂ _+ℤ_ (conv-none wholes-ring (at wholes (coordinateOf x)) k) (*ℤ-zero h));
 }
 
-module _ {x : Six} {h : ℤ} (hx : (k : ℕ) → Within 1600000 (at wholes (six x) k)) (hh : Within 20000 h) where
-  x-sized : (k : ℕ) → Within (xSize k) (at wholes (six x) k)
+module _ {x : Coordinate} {h : ℤ} (hx : (k : ℕ) → Within 1600000 (at wholes (coordinateOf x) k)) (hh : Within coordinateReach h) where
+  x-sized : (k : ℕ) → Within (xSize k) (at wholes (coordinateOf x) k)
   x-sized zero = hx 0
   x-sized (suc zero) = hx 1
   x-sized (suc (suc zero)) = hx 2
@@ -123,7 +126,7 @@ module _ {x : Six} {h : ℤ} (hx : (k : ℕ) → Within 1600000 (at wholes (six 
   x-sized (suc (suc (suc (suc (suc zero))))) = hx 5
   x-sized (suc (suc (suc (suc (suc (suc k)))))) = record { size = zero-le }
 
-  pub stage-within : (n : ℕ) (p : Ten) (w d : List ℤ) → Stage x h n p w d → (k : ℕ) → Within (rowSize n k) (at wholes (ten p) k)
+  pub stage-within : (n : ℕ) (p : Nonic) (w d : List ℤ) → Stage x h n p w d → (k : ℕ) → Within (rowSize n k) (at wholes (nonic p) k)
   stage-within n p w d s k =
       rw (s .row k)
       (row-within x-sized hh n (at wholes w) (at wholes d) (s .w-small) (s .d-small)
@@ -137,7 +140,7 @@ module _ {x : Six} {h : ℤ} (hx : (k : ℕ) → Within 1600000 (at wholes (six 
   row-ninth (suc (suc (suc (suc zero)))) l = refl
   row-ninth (suc (suc (suc (suc (suc n))))) l = absurd (omega arith)
 
-  pub stage-step : (n : ℕ) (p : Ten) (w d : List ℤ) (a b : ℤ) → n ≤ 4 → Within 20000000 a → Within 1280000 b → Stage x h n p w d
+  pub stage-step : (n : ℕ) (p : Nonic) (w d : List ℤ) (a b : ℤ) → n ≤ 4 → Within rootSize a → Within 1280000 b → Stage x h n p w d
       → Stage x h (suc n) (joinedTo p a x (h *ℤ b)) (a ∷ w) (b ∷ d)
   unfolding conv
   stage-step n p w d a b l ha hb s = record {
@@ -155,22 +158,22 @@ module _ {x : Six} {h : ℤ} (hx : (k : ℕ) → Within 1600000 (at wholes (six 
       ninth : p .e9 ≡ pos 0
       ninth = abs-zero (p .e9) (omega (arith, stage-within n p w d s 9 .size, row-ninth n l))
 
-      step : (k : ℕ) → at wholes (ten (joinedTo p a x (h *ℤ b))) k ≡ rowOf (at wholes (a ∷ w)) (at wholes (six x)) h (at wholes (b ∷ d)) k
+      step : (k : ℕ) → at wholes (nonic (joinedTo p a x (h *ℤ b))) k ≡ rowOf (at wholes (a ∷ w)) (at wholes (coordinateOf x)) h (at wholes (b ∷ d)) k
       step zero = refl
       step (suc k) =
           joined-suc p a x (h *ℤ b) ninth k
-          ∙ ap (λ t. a *ℤ at wholes (six x) (suc k) +ℤ t) (s .row k)
-          ∙ sym (row-suc (at wholes (a ∷ w)) (at wholes (six x)) h (at wholes (b ∷ d)) k)
+          ∙ ap (λ t. a *ℤ at wholes (coordinateOf x) (suc k) +ℤ t) (s .row k)
+          ∙ sym (row-suc (at wholes (a ∷ w)) (at wholes (coordinateOf x)) h (at wholes (b ∷ d)) k)
 
-pub stage-row : {x : Six} {h : ℤ} {n : ℕ} {p : Ten} {w d : List ℤ} → Stage x h n p w d → IsRow w (six x) h d (ten p)
+pub stage-row : {x : Coordinate} {h : ℤ} {n : ℕ} {p : Nonic} {w d : List ℤ} → Stage x h n p w d → IsRow w (coordinateOf x) h d (nonic p)
 stage-row {x} {h} {w} {d} s k =
     s .row k
-    ∙ sym (at-sum wholes-ring (product wholes w (six x)) (scaled wholes h d) k
-    ∙ ap₂ _+ℤ_ (at-product wholes-ring w (six x) k) (at-scaled wholes-ring h d k))
+    ∙ sym (at-sum wholes-ring (product wholes w (coordinateOf x)) (scaled wholes h d) k
+    ∙ ap₂ _+ℤ_ (at-product wholes-ring w (coordinateOf x) k) (at-scaled wholes-ring h d k))
 
-pub row-sized : {x : Six} {h : ℤ} {w d : List ℤ} (r : List ℤ) → RowAsked w (six x) h d → length w ≤ 5 → length d ≤ 5 → IsRow w (six x) h d r → (k : ℕ) → Within (rowSize 5 k) (at wholes r k)
+pub row-sized : {x : Coordinate} {h : ℤ} {w d : List ℤ} (r : List ℤ) → RowAsked w (coordinateOf x) h d → length w ≤ 5 → length d ≤ 5 → IsRow w (coordinateOf x) h d r → (k : ℕ) → Within (rowSize 5 k) (at wholes r k)
 row-sized {x} {h} {w} {d} r a lw ld e k =
     subst (Within (rowSize 5 k))
-    (sym (e k ∙ at-sum wholes-ring (product wholes w (six x)) (scaled wholes h d) k ∙ ap₂ _+ℤ_ (at-product wholes-ring w (six x) k) (at-scaled wholes-ring h d k)))
+    (sym (e k ∙ at-sum wholes-ring (product wholes w (coordinateOf x)) (scaled wholes h d) k ∙ ap₂ _+ℤ_ (at-product wholes-ring w (coordinateOf x) k) (at-scaled wholes-ring h d k)))
     (row-within (x-sized (a .x-small) (a .h-small)) (a .h-small) 5 (at wholes w) (at wholes d) (a .w-small) (a .d-small)
     (λ i l. List·getD-eq-default w (pos 0) {n = i} (omega arith)) (λ i l. List·getD-eq-default d (pos 0) {n = i} (omega arith)) k)

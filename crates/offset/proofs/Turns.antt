@@ -13,27 +13,28 @@ use native.Mathlib.Nat.{pow-succ', pow-le-pow-right}
 use native.Mathlib.Omega.{arith}
 use lib.IntN.{ℤ}
 use lib.ListN.{length, drop, set, length-append, length-drop, drop-of-length-le}
-use Rattle.whole.specs.Poly.{at}
+use Rattle.whole.specs.Coefficients.{at}
 use Rattle.whole.specs.Number.{wholes, Within}
 use Rattle.whole.proofs.Bound.{abs-plus}
 use Rattle.root.specs.Search.{Each}
+use Rattle.bernstein.specs.Binomials.{binomialSum}
+use Rattle.bernstein.proofs.Sums.{binomialSum-first, binomialSum-next}
 use Rattle.curve.specs.declared.Curve.{Curve}
 use Rattle.curve.specs.declared.Curve.the-variants.{Cubic, Quintic}
 use Rattle.offset.specs.declared.Rows.{Rows}
-use Rattle.offset.specs.declared.Ten.{Ten}
-use Rattle.offset.specs.Offsets.{binomialSum, Rational, numbersOf, degreeOf, offsetNumbers}
-use Rattle.offset.specs.Steps.{ten, IsNext, RowsOf}
-use Rattle.offset.proofs.Sums.{binomialSum-first, binomialSum-next}
+use Rattle.offset.specs.declared.Nonic.{Nonic}
+use Rattle.offset.specs.Promise.{Rational, pointNumbers, offsetDegree, offsetNumbers}
+use Rattle.offset.specs.Steps.{nonic, IsNext, RowsOf}
 
 -- the numbers of so many points, from rows
-abbrev pub numbers : ℕ → Ten → Ten → Ten → List ℤ
-numbers points w x y = numbersOf points (binomialSum (at wholes (ten w))) (binomialSum (at wholes (ten x))) (binomialSum (at wholes (ten y)))
+abbrev pub numbers : ℕ → Nonic → Nonic → Nonic → List ℤ
+numbers points w x y = pointNumbers points (binomialSum (at wholes (nonic w))) (binomialSum (at wholes (nonic x))) (binomialSum (at wholes (nonic y)))
 
 -- after so many turns a row is at most that many times doubled
-abbrev pub Doubled : ℕ → Ten → Type 0
-Doubled turns e = Each wholes (Within (2 ^ turns * 8700000000000000)) (ten e)
+abbrev pub Doubled : ℕ → Nonic → Type 0
+Doubled turns e = Each wholes (Within (2 ^ turns * 8700000000000000)) (nonic e)
 
-pub record Turn (all before area : List ℤ) (w x y : Ten) (i : ℕ) : Type 0 where
+pub record Turn (all before area : List ℤ) (w x y : Nonic) (i : ℕ) : Type 0 where
   pub turns : ℕ
   pub left : ℕ
   pub few : turns + left ≤ 10
@@ -66,28 +67,28 @@ set-at a b c ys d i e l =
     rw (one, two, three, sym e) (set-three a b c ys d (omega arith))
 
 -- ---- a turn
-doubled-next : (turns : ℕ) (e r : Ten) → Doubled turns e → IsNext (ten e) (ten r) → Doubled (suc turns) r
+doubled-next : (turns : ℕ) (e r : Nonic) → Doubled turns e → IsNext (nonic e) (nonic r) → Doubled (suc turns) r
 doubled-next turns e r h n k =
-    rw (n k) (record { size = omega (arith, pow-succ' 2 turns, abs-plus (at wholes (ten e) k) (at wholes (ten e) (suc k)), h k .size, h (suc k) .size) })
+    rw (n k) (record { size = omega (arith, pow-succ' 2 turns, abs-plus (at wholes (nonic e) k) (at wholes (nonic e) (suc k)), h k .size, h (suc k) .size) })
 
 -- a row that a turn is left for can be added up once more
-pub doubled-fits : (turns : ℕ) (e : Ten) → turns < 10 → Doubled turns e → Each wholes (Within 4500000000000000000) (ten e)
+pub doubled-fits : (turns : ℕ) (e : Nonic) → turns < 10 → Doubled turns e → Each wholes (Within 4500000000000000000) (nonic e)
 doubled-fits turns e l h k =
     let p : 2 ^ turns ≤ 2 ^ 9 = pow-le-pow-right {n = 2} (omega arith) {i = turns} {j = 9} (omega arith) in
     record { size = omega (arith, h k .size) }
 
-sums-next : (e r : Ten) → IsNext (ten e) (ten r) → (λ k. binomialSum (at wholes (ten e)) (suc k)) ≡ binomialSum (at wholes (ten r))
-sums-next e r n = fun-ext (binomialSum-next (at wholes (ten e)) (at wholes (ten r)) n)
+sums-next : (e r : Nonic) → IsNext (nonic e) (nonic r) → (λ k. binomialSum (at wholes (nonic e)) (suc k)) ≡ binomialSum (at wholes (nonic r))
+sums-next e r n = fun-ext (binomialSum-next (at wholes (nonic e)) (at wholes (nonic r)) n)
 
-numbers-next : (left : ℕ) (w x y w′ x′ y′ : Ten) → IsNext (ten w) (ten w′) → IsNext (ten x) (ten x′) → IsNext (ten y) (ten y′)
+numbers-next : (left : ℕ) (w x y w′ x′ y′ : Nonic) → IsNext (nonic w) (nonic w′) → IsNext (nonic x) (nonic x′) → IsNext (nonic y) (nonic y′)
     → numbers (suc left) w x y ≡ w .e0 ∷ x .e0 ∷ y .e0 ∷ numbers left w′ x′ y′
-unfolding numbersOf
+unfolding pointNumbers
 numbers-next left w x y w′ x′ y′ h k l = λ i.
-    binomialSum-first (at wholes (ten w)) i ∷ binomialSum-first (at wholes (ten x)) i ∷ binomialSum-first (at wholes (ten y)) i
-    ∷ numbersOf left (sums-next w w′ h i) (sums-next x x′ k i) (sums-next y y′ l i)
+    binomialSum-first (at wholes (nonic w)) i ∷ binomialSum-first (at wholes (nonic x)) i ∷ binomialSum-first (at wholes (nonic y)) i
+    ∷ pointNumbers left (sums-next w w′ h i) (sums-next x x′ k i) (sums-next y y′ l i)
 
-pub turn-start : (area : List ℤ) (count : ℕ) (w x y : Ten) → length area ≡ 3 * count → count ≤ 10 → Each wholes (Within 8700000000000000) (ten w)
-    → Each wholes (Within 8700000000000000) (ten x) → Each wholes (Within 8700000000000000) (ten y) → Turn (numbers count w x y) area area w x y 0
+pub turn-start : (area : List ℤ) (count : ℕ) (w x y : Nonic) → length area ≡ 3 * count → count ≤ 10 → Each wholes (Within 8700000000000000) (nonic w)
+    → Each wholes (Within 8700000000000000) (nonic x) → Each wholes (Within 8700000000000000) (nonic y) → Turn (numbers count w x y) area area w x y 0
 turn-start area count w x y e l hw hx hy = record {
   turns = 0;
   left = count;
@@ -102,14 +103,14 @@ turn-start area count w x y e l hw hx hy = record {
   rest = refl;
 }
 
-module _ {all before area : List ℤ} {w x y : Ten} {i : ℕ} (t : Turn all before area w x y i) where
+module _ {all before area : List ℤ} {w x y : Nonic} {i : ℕ} (t : Turn all before area w x y i) where
   pub turn-left : i < length before → (t .turns < 10) × (i + 3 ≤ length before)
   turn-left l = (omega (arith, t .few, t .end), omega (arith, t .end))
 
   pub turn-long : length area ≡ length before
   turn-long = omega (arith, ap length (t .area-is), length-append (t .written) (drop i before), length-drop i before, t .place, t .end)
 
-  pub turn-more : {w′ x′ y′ : Ten} → i < length before → IsNext (ten w) (ten w′) → IsNext (ten x) (ten x′) → IsNext (ten y) (ten y′)
+  pub turn-more : {w′ x′ y′ : Nonic} → i < length before → IsNext (nonic w) (nonic w′) → IsNext (nonic x) (nonic x′) → IsNext (nonic y) (nonic y′)
       → Turn all before (set (set (set area i (w .e0)) (i + 1) (x .e0)) (i + 2) (y .e0)) w′ x′ y′ (i + 3)
   turn-more {w′} {x′} {y′} l h k j = by (t .left) refl
     where
@@ -137,15 +138,15 @@ module _ {all before area : List ℤ} {w x y : Ten} {i : ℕ} (t : Turn all befo
       }
 
   pub turn-end : length before ≤ i → area ≡ all
-  unfolding numbersOf
+  unfolding pointNumbers
   turn-end l =
       let none : 0 ≡ t .left = omega (arith, t .end) in
       t .area-is ∙ ap (λ (d : List ℤ). t .written ++ d) (drop-of-length-le before {i = i} l) ∙ ap (λ (n : ℕ). t .written ++ numbers n w x y) none ∙ t .rest
 
 -- ---- the rows of a curve
-pub few-points : (curve : Curve) → suc (degreeOf curve) ≤ 10
+pub few-points : (curve : Curve) → suc (offsetDegree curve) ≤ 10
 few-points (Cubic c) = omega arith
 few-points (Quintic c) = omega arith
 
-pub rows-numbers : (curve : Curve) {o : Rational} (r : Rows) → RowsOf curve o r → {count : ℕ} → count ≡ suc (degreeOf curve) → numbers count (r .w) (r .x) (r .y) ≡ offsetNumbers curve o
-rows-numbers curve r h e = λ i. numbersOf (e i) (binomialSum (λ j. h .w .weighted j i)) (binomialSum (λ j. h .x .weighted j i)) (binomialSum (λ j. h .y .weighted j i))
+pub rows-numbers : (curve : Curve) {o : Rational} (r : Rows) → RowsOf curve o r → {count : ℕ} → count ≡ suc (offsetDegree curve) → numbers count (r .w) (r .x) (r .y) ≡ offsetNumbers curve o
+rows-numbers curve r h e = λ i. pointNumbers (e i) (binomialSum (λ j. h .w .weighted j i)) (binomialSum (λ j. h .x .weighted j i)) (binomialSum (λ j. h .y .weighted j i))

@@ -1,5 +1,5 @@
 -- The steps of an offset: what each part of the program computes.
---   six, ten             the polynomials that the structs hold
+--   coordinateOf, nonic  the polynomials that the structs hold
 --   PathAsked, IsPath    x with x' = n d, of which the start x₀ is known
 --   joinedTo             f x + g, and p moved up by one power
 --   RowAsked, IsRow      W x + h D, by whole numbers within their bounds
@@ -22,29 +22,32 @@ use lib.Signed.{_<ℤ_}
 use Rattle.refusal.specs.declared.Refusal.the-variants as R
 use Rattle.refusal.specs.Table.{Cause}
 use Rattle.refusal.specs.Answers.{Answer, refuse, given, FirstOr}
-use Rattle.whole.specs.Poly.{at, Same, sum, scaled, product, choose, Divides}
+use Rattle.whole.specs.Coefficients.{at, Divides}
+use Rattle.poly.specs.Polynomials.{Same, sum, scaled, product}
 use Rattle.whole.specs.Number.{wholes, Within}
 use Rattle.area.specs.Promise.{FirstOrIn}
 use Rattle.root.specs.declared.Quartic.{Quartic}
-use Rattle.root.specs.Roots.{quartic, Small}
+use Rattle.root.specs.Promise.{quartic, Small, rootSize}
 use Rattle.root.specs.Search.{Each}
+use Rattle.bernstein.specs.Binomials.{choose}
 use Rattle.curve.specs.declared.Curve.{Curve}
 use Rattle.curve.specs.Curves.{InRange, pointsOf, legPolynomial}
+use Rattle.curve.specs.Sizes.{coordinateReach}
 use Rattle.verdict.specs.declared.Square.{Square}
 use Rattle.verdict.specs.Verdicts.{WithPreimage}
 use Rattle.offset.specs.declared.Denominator.{Denominator}
 use Rattle.offset.specs.declared.Denominator.the-variants.{Found, Refused}
 use Rattle.offset.specs.declared.OffsetAnswer.{OffsetAnswer}
-use Rattle.offset.specs.declared.Six.{Six}
-use Rattle.offset.specs.declared.Ten.{Ten}
+use Rattle.offset.specs.declared.Coordinate.{Coordinate}
+use Rattle.offset.specs.declared.Nonic.{Nonic}
 use Rattle.offset.specs.declared.Rows.{Rows}
-use Rattle.offset.specs.Offsets.{Rational, degreeOf, scaleOf, offsetNumbers, no-room, curve-causes, answerOfOffset}
+use Rattle.offset.specs.Promise.{Rational, offsetDegree, offsetScale, offsetNumbers, no-room, curve-causes, answerOfOffset}
 
-abbrev pub six : Six → List ℤ
-six x = x .x0 ∷ x .x1 ∷ x .x2 ∷ x .x3 ∷ x .x4 ∷ x .x5 ∷ []
+abbrev pub coordinateOf : Coordinate → List ℤ
+coordinateOf x = x .x0 ∷ x .x1 ∷ x .x2 ∷ x .x3 ∷ x .x4 ∷ x .x5 ∷ []
 
-abbrev pub ten : Ten → List ℤ
-ten e = e .e0 ∷ e .e1 ∷ e .e2 ∷ e .e3 ∷ e .e4 ∷ e .e5 ∷ e .e6 ∷ e .e7 ∷ e .e8 ∷ e .e9 ∷ []
+abbrev pub nonic : Nonic → List ℤ
+nonic e = e .e0 ∷ e .e1 ∷ e .e2 ∷ e .e3 ∷ e .e4 ∷ e .e5 ∷ e .e6 ∷ e .e7 ∷ e .e8 ∷ e .e9 ∷ []
 
 pub record PathAsked (d : List ℤ) (n : ℤ) : Type 0 where
   pub small : Each wholes (Within 1280000) d
@@ -55,7 +58,7 @@ pub record IsPath (x₀ : ℤ) (d : List ℤ) (n : ℤ) (x : List ℤ) : Type 0 
   pub start : at wholes x zero ≡ x₀
   pub derived : (k : ℕ) → pos (suc k) *ℤ at wholes x (suc k) ≡ at wholes d k *ℤ n
 
-abbrev pub joinedTo : Ten → ℤ → Six → ℤ → Ten
+abbrev pub joinedTo : Nonic → ℤ → Coordinate → ℤ → Nonic
 joinedTo p f x g = record {
   e0 = f *ℤ x .x0 +ℤ g;
   e1 = f *ℤ x .x1 +ℤ p .e0;
@@ -70,22 +73,22 @@ joinedTo p f x g = record {
 }
 
 pub record RowAsked (w x : List ℤ) (h : ℤ) (d : List ℤ) : Type 0 where
-  pub w-small : Each wholes (Within 20000000) w
+  pub w-small : Each wholes (Within rootSize) w
   pub x-small : Each wholes (Within 1600000) x
-  pub h-small : Within 20000 h
+  pub h-small : Within coordinateReach h
   pub d-small : Each wholes (Within 1280000) d
 
 abbrev pub IsRow : List ℤ → List ℤ → ℤ → List ℤ → List ℤ → Type 0
 IsRow w x h d r = Same wholes r (sum wholes (product wholes w x) (scaled wholes h d))
 
 abbrev pub Weights : Curve → List ℤ → Type 0
-Weights curve s = (k : ℕ) → at wholes s k ≡ pos (scaleOf curve / choose (degreeOf curve) k)
+Weights curve s = (k : ℕ) → at wholes s k ≡ pos (offsetScale curve / choose (offsetDegree curve) k)
 
 abbrev pub IsWeighted : List ℤ → List ℤ → List ℤ → Type 0
 IsWeighted a s r = (k : ℕ) → at wholes r k ≡ at wholes a k *ℤ at wholes s k
 
 pub record Weighted (curve : Curve) (a e : List ℤ) : Type 0 where
-  pub weighted : (k : ℕ) → at wholes e k ≡ at wholes a k *ℤ pos (scaleOf curve / choose (degreeOf curve) k)
+  pub weighted : (k : ℕ) → at wholes e k ≡ at wholes a k *ℤ pos (offsetScale curve / choose (offsetDegree curve) k)
   pub small : Each wholes (Within 8700000000000000) e
 
 abbrev pub IsNext : List ℤ → List ℤ → Type 0
@@ -93,20 +96,20 @@ IsNext e r = (k : ℕ) → at wholes r k ≡ at wholes e k +ℤ at wholes e (suc
 
 pub record RowsAsked (curve : Curve) (h : ℤ) (w : List ℤ) : Type 0 where
   pub range : InRange (pointsOf curve)
-  pub h-small : Within 20000 h
+  pub h-small : Within coordinateReach h
   pub w-small : Each wholes Small w
 
 pub record RowsOf (curve : Curve) (o : Rational) (r : Rows) : Type 0 where
-  pub w : Weighted curve (o .w) (ten (r .w))
-  pub x : Weighted curve (o .x) (ten (r .x))
-  pub y : Weighted curve (o .y) (ten (r .y))
+  pub w : Weighted curve (o .w) (nonic (r .w))
+  pub x : Weighted curve (o .x) (nonic (r .x))
+  pub y : Weighted curve (o .y) (nonic (r .y))
 
 pub record Putting (room count : ℕ) (r : Rows) : Type 0 where
   pub room-is : room ≡ 3 * count
   pub few : count ≤ 10
-  pub w : Each wholes (Within 8700000000000000) (ten (r .w))
-  pub x : Each wholes (Within 8700000000000000) (ten (r .x))
-  pub y : Each wholes (Within 8700000000000000) (ten (r .y))
+  pub w : Each wholes (Within 8700000000000000) (nonic (r .w))
+  pub x : Each wholes (Within 8700000000000000) (nonic (r .x))
+  pub y : Each wholes (Within 8700000000000000) (nonic (r .y))
 
 -- ---- W
 pub record RootAsked (s : Square) : Type 0 where

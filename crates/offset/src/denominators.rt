@@ -1,5 +1,6 @@
 // W = m q of a curve that has an offset.
 use crate::Denominator;
+use curve::COORDINATE_REACH;
 use curve::Curve;
 use refusal::Refusal;
 use root::Quartic;
@@ -8,26 +9,14 @@ use verdict::Square;
 use verdict::preimage_of;
 use whole::Root;
 use whole::square_root;
+use whole::within;
 ghost use mathlib.Core.Path.{_≡_};
 ghost use Prim.Native.Nat.{_^_};
-ghost use Rattle.whole.specs.Number.{wholes, Within, Tells};
-ghost use Rattle.whole.specs.Poly.{scaled};
-ghost use Rattle.root.specs.Roots.{quartic, Small};
+ghost use Rattle.whole.specs.Number.{wholes, Within};
+ghost use Rattle.poly.specs.Polynomials.{scaled};
+ghost use Rattle.root.specs.Promise.{quartic, Small};
 ghost use Rattle.root.specs.Search.{Each};
 ghost use Rattle.offset.specs.Steps.{RootAsked, IsRooted, Denominated};
-
-// Whether h is from -20,000 to 20,000.
-fn in_range(h: i64) -> bool
-    ensures { λ r. ⌜ Tells (Within 20000 h) r ⌝ }
-{
-    if h < -20000 {
-        return false;
-    }
-    if h > 20000 {
-        return false;
-    }
-    true
-}
 
 // m q
 fn multiple(m: i64, q: Quartic) -> Quartic
@@ -60,7 +49,7 @@ fn rooted(s: Square) -> Denominator
             let w = multiple(m as i64, q);
             Denominator::Found(w)
         }
-        Root::NotSquare => Denominator::Refused(Refusal::Root),
+        Root::None => Denominator::Refused(Refusal::Root),
     }
 }
 
@@ -68,7 +57,7 @@ fn rooted(s: Square) -> Denominator
 pub(crate) fn denominator_of(curve: Curve, h: i64) -> Denominator
     ensures { λ r. ⌜ Denominated curve h r ⌝ }
 {
-    if !in_range(h) {
+    if !within(h, COORDINATE_REACH) {
         return Denominator::Refused(Refusal::Range);
     }
     match preimage_of(curve) {

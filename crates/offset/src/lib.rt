@@ -13,13 +13,13 @@ use root::Quartic;
 use terms::rows;
 ghost use mathlib.Core.Path.{_≡_};
 ghost use Prim.Native.Nat.{suc};
-ghost use Rattle.root.specs.Roots.{quartic};
+ghost use Rattle.root.specs.Promise.{quartic};
 ghost use Rattle.curve.specs.Curves.{pointsOf};
-ghost use Rattle.offset.specs.Offsets.{offsetCurve, degreeOf, OffsetBy};
+ghost use Rattle.offset.specs.Promise.{offsetCurve, offsetDegree, OffsetBy};
 ghost use Rattle.offset.specs.Steps.{RowsAsked, PutIn};
 
 // x0 + x1 t + .. + x5 t^5
-pub struct Six {
+pub struct Coordinate {
     pub x0: i64,
     pub x1: i64,
     pub x2: i64,
@@ -29,7 +29,7 @@ pub struct Six {
 }
 
 // e0 + e1 t + .. + e9 t^9
-pub struct Ten {
+pub struct Nonic {
     pub e0: i64,
     pub e1: i64,
     pub e2: i64,
@@ -44,9 +44,9 @@ pub struct Ten {
 
 // W, X and Y, each coefficient times its weight.
 pub struct Rows {
-    pub w: Ten,
-    pub x: Ten,
-    pub y: Ten,
+    pub w: Nonic,
+    pub x: Nonic,
+    pub y: Nonic,
 }
 
 // How many numbers the area holds, or why there is no offset.
@@ -63,7 +63,7 @@ pub enum Denominator {
 
 // How many control points an offset has.
 fn points_of(curve: Curve) -> usize
-    ensures { λ r. ⌜ r ≡ suc (degreeOf curve) ⌝ }
+    ensures { λ r. ⌜ r ≡ suc (offsetDegree curve) ⌝ }
 {
     match curve {
         Curve::Cubic(_) => 6,

@@ -1,18 +1,19 @@
 // The Bernstein coefficients from the weighted rows, written point by point.
+use crate::Nonic;
 use crate::Rows;
-use crate::Ten;
 ghost use mathlib.Core.Path.{_≡_};
 ghost use lib.ListN.{length};
 ghost use Rattle.whole.specs.Number.{wholes, Within};
-ghost use Rattle.whole.specs.Poly.{at};
+ghost use Rattle.whole.specs.Coefficients.{at};
 ghost use Rattle.root.specs.Search.{Each};
-ghost use Rattle.offset.specs.Offsets.{binomialSum, numbersOf};
-ghost use Rattle.offset.specs.Steps.{ten, IsNext, Putting};
+ghost use Rattle.bernstein.specs.Binomials.{binomialSum};
+ghost use Rattle.offset.specs.Promise.{pointNumbers};
+ghost use Rattle.offset.specs.Steps.{nonic, IsNext, Putting};
 
 // Each coefficient and the one above it, added: by Pascal's rule the first of the k-th row is the k-th sum with binomial coefficients.
-fn next(e: Ten) -> Ten
-    requires { ⌜ Each wholes (Within 4500000000000000000) (ten e) ⌝ }
-    ensures { λ r. ⌜ IsNext (ten e) (ten r) ⌝ }
+fn next(e: Nonic) -> Nonic
+    requires { ⌜ Each wholes (Within 4500000000000000000) (nonic e) ⌝ }
+    ensures { λ r. ⌜ IsNext (nonic e) (nonic r) ⌝ }
 {
     let e0 = e.e0;
     let e1 = e.e1;
@@ -24,7 +25,7 @@ fn next(e: Ten) -> Ten
     let e7 = e.e7;
     let e8 = e.e8;
     let e9 = e.e9;
-    Ten {
+    Nonic {
         e0: e0 + e1,
         e1: e1 + e2,
         e2: e2 + e3,
@@ -41,7 +42,7 @@ fn next(e: Ten) -> Ten
 // Writes W, X and Y of one point after the other over the whole of the area.
 pub(crate) fn put_points(area: &mut [i64], count: usize, rows: Rows)
     requires { ⌜ Putting (length (now area)) count rows ⌝ }
-    ensures { λ _. ⌜ now (area .exit) ≡ numbersOf count (binomialSum (at wholes (ten (rows .w)))) (binomialSum (at wholes (ten (rows .x)))) (binomialSum (at wholes (ten (rows .y)))) ⌝ }
+    ensures { λ _. ⌜ now (area .exit) ≡ pointNumbers count (binomialSum (at wholes (nonic (rows .w)))) (binomialSum (at wholes (nonic (rows .x)))) (binomialSum (at wholes (nonic (rows .y)))) ⌝ }
 {
     let mut w = rows.w;
     let mut x = rows.x;

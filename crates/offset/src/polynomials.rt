@@ -1,18 +1,18 @@
 // Polynomials by their coefficients: W x + h d, and each coefficient times its weight.
-use crate::Six;
-use crate::Ten;
+use crate::Coordinate;
+use crate::Nonic;
 use curve::Curve;
 use root::Quartic;
 ghost use mathlib.Core.Path.{_≡_};
 ghost use Rattle.whole.specs.Number.{wholes, Within};
-ghost use Rattle.whole.specs.Poly.{Same};
-ghost use Rattle.root.specs.Roots.{quartic, Small};
+ghost use Rattle.poly.specs.Polynomials.{Same};
+ghost use Rattle.root.specs.Promise.{quartic, Small, rootSize};
 ghost use Rattle.root.specs.Search.{Each};
-ghost use Rattle.offset.specs.Steps.{six, ten, joinedTo, RowAsked, IsRow, Weights, IsWeighted};
+ghost use Rattle.offset.specs.Steps.{coordinateOf, nonic, joinedTo, RowAsked, IsRow, Weights, IsWeighted};
 
 // f x + g, and p moved up by one power.
-fn joined(p: Ten, f: i64, x: Six, g: i64) -> Ten
-    requires { ⌜ Each wholes (Within 130000000000000) (ten p) × Within 20000000 f × Each wholes (Within 1600000) (six x) × Within 25600000000 g ⌝ }
+fn joined(p: Nonic, f: i64, x: Coordinate, g: i64) -> Nonic
+    requires { ⌜ Each wholes (Within 130000000000000) (nonic p) × Within rootSize f × Each wholes (Within 1600000) (coordinateOf x) × Within 25600000000 g ⌝ }
     ensures { λ r. ⌜ r ≡ joinedTo p f x g ⌝ }
 {
     let x0 = x.x0;
@@ -30,7 +30,7 @@ fn joined(p: Ten, f: i64, x: Six, g: i64) -> Ten
     let e6 = p.e6;
     let e7 = p.e7;
     let e8 = p.e8;
-    Ten {
+    Nonic {
         e0: f * x0 + g,
         e1: f * x1 + e0,
         e2: f * x2 + e1,
@@ -45,9 +45,9 @@ fn joined(p: Ten, f: i64, x: Six, g: i64) -> Ten
 }
 
 // W x + h d: by powers of W, from the highest down.
-pub(crate) fn row(w: Quartic, x: Six, h: i64, d: Quartic) -> Ten
-    requires { ⌜ RowAsked (quartic w) (six x) h (quartic d) ⌝ }
-    ensures { λ r. ⌜ IsRow (quartic w) (six x) h (quartic d) (ten r) ⌝ }
+pub(crate) fn row(w: Quartic, x: Coordinate, h: i64, d: Quartic) -> Nonic
+    requires { ⌜ RowAsked (quartic w) (coordinateOf x) h (quartic d) ⌝ }
+    ensures { λ r. ⌜ IsRow (quartic w) (coordinateOf x) h (quartic d) (nonic r) ⌝ }
 {
     let w0 = w.q0;
     let w1 = w.q1;
@@ -59,7 +59,7 @@ pub(crate) fn row(w: Quartic, x: Six, h: i64, d: Quartic) -> Ten
     let d2 = d.q2;
     let d3 = d.q3;
     let d4 = d.q4;
-    let zero = Ten {
+    let zero = Nonic {
         e0: 0,
         e1: 0,
         e2: 0,
@@ -79,11 +79,11 @@ pub(crate) fn row(w: Quartic, x: Six, h: i64, d: Quartic) -> Ten
 }
 
 // A polynomial of a lower degree among those of ten coefficients.
-pub(crate) fn extended(w: Quartic) -> Ten
+pub(crate) fn extended(w: Quartic) -> Nonic
     requires { ⌜ Each wholes Small (quartic w) ⌝ }
-    ensures { λ r. ⌜ Same wholes (ten r) (quartic w) ⌝ }
+    ensures { λ r. ⌜ Same wholes (nonic r) (quartic w) ⌝ }
 {
-    Ten {
+    Nonic {
         e0: w.q0,
         e1: w.q1,
         e2: w.q2,
@@ -98,11 +98,11 @@ pub(crate) fn extended(w: Quartic) -> Ten
 }
 
 // 252 / C(9, k) for a quintic, 10 / C(5, k) for a cubic.
-pub(crate) fn weights(curve: Curve) -> Ten
-    ensures { λ s. ⌜ Weights curve (ten s) ⌝ }
+pub(crate) fn weights(curve: Curve) -> Nonic
+    ensures { λ s. ⌜ Weights curve (nonic s) ⌝ }
 {
     match curve {
-        Curve::Cubic(_) => Ten {
+        Curve::Cubic(_) => Nonic {
             e0: 10,
             e1: 2,
             e2: 1,
@@ -114,7 +114,7 @@ pub(crate) fn weights(curve: Curve) -> Ten
             e8: 0,
             e9: 0,
         },
-        Curve::Quintic(_) => Ten {
+        Curve::Quintic(_) => Nonic {
             e0: 252,
             e1: 28,
             e2: 7,
@@ -130,9 +130,9 @@ pub(crate) fn weights(curve: Curve) -> Ten
 }
 
 // Each coefficient times its weight.
-pub(crate) fn weighted(a: Ten, s: Ten) -> Ten
-    requires { ⌜ Each wholes (Within 170000000000000) (ten a) × Each wholes (Within 252) (ten s) ⌝ }
-    ensures { λ r. ⌜ IsWeighted (ten a) (ten s) (ten r) ⌝ }
+pub(crate) fn weighted(a: Nonic, s: Nonic) -> Nonic
+    requires { ⌜ Each wholes (Within 170000000000000) (nonic a) × Each wholes (Within 252) (nonic s) ⌝ }
+    ensures { λ r. ⌜ IsWeighted (nonic a) (nonic s) (nonic r) ⌝ }
 {
     let a0 = a.e0;
     let a1 = a.e1;
@@ -154,7 +154,7 @@ pub(crate) fn weighted(a: Ten, s: Ten) -> Ten
     let s7 = s.e7;
     let s8 = s.e8;
     let s9 = s.e9;
-    Ten {
+    Nonic {
         e0: a0 * s0,
         e1: a1 * s1,
         e2: a2 * s2,

@@ -1,6 +1,6 @@
 // W, X and Y of a curve's offset, as powers of t, each coefficient times its weight.
+use crate::Coordinate;
 use crate::Rows;
-use crate::Six;
 use crate::polynomials::extended;
 use crate::polynomials::row;
 use crate::polynomials::weighted;
@@ -17,17 +17,17 @@ ghost use mathlib.Core.Path.{_≡_};
 ghost use Prim.Native.Nat.{_-_};
 ghost use lib.IntN.{pos};
 ghost use lib.ListN.{length};
-ghost use Rattle.whole.specs.Poly.{at};
+ghost use Rattle.whole.specs.Coefficients.{at};
 ghost use Rattle.pair.specs.Pairs.{pairs};
-ghost use Rattle.root.specs.Roots.{quartic};
+ghost use Rattle.root.specs.Promise.{quartic};
 ghost use Rattle.curve.specs.Curves.{pointsOf};
-ghost use Rattle.offset.specs.Offsets.{offsetCurve};
-ghost use Rattle.offset.specs.Steps.{six, PathAsked, IsPath, RowsAsked, RowsOf};
+ghost use Rattle.offset.specs.Promise.{offsetCurve};
+ghost use Rattle.offset.specs.Steps.{coordinateOf, PathAsked, IsPath, RowsAsked, RowsOf};
 
 // x with x' = n d, from its start.
-fn path(start: i64, d: Quartic, n: i64) -> Six
+fn path(start: i64, d: Quartic, n: i64) -> Coordinate
     requires { ⌜ PathAsked (quartic d) n ⌝ }
-    ensures { λ x. ⌜ IsPath start (quartic d) n (six x) ⌝ }
+    ensures { λ x. ⌜ IsPath start (quartic d) n (coordinateOf x) ⌝ }
 {
     let d0 = d.q0;
     let d1 = d.q1;
@@ -39,7 +39,7 @@ fn path(start: i64, d: Quartic, n: i64) -> Six
     let x3 = share(d2 * n, 3);
     let x4 = share(d3 * n, 4);
     let x5 = share(d4 * n, 5);
-    Six {
+    Coordinate {
         x0: start,
         x1,
         x2,

@@ -2,7 +2,8 @@
 --   pairs-ring               the laws; by name times-assoc, times-comm, times-one, times-plus, number-times
 --   negative-twice           −(−a) = a
 --   plus-minus               what is added is taken off again
---   multiple-none            a multiple of 0 is 0
+--   multiple-none, none-multiple, multiple-one      a multiple of 0 and by 0 is 0, and once a is a
+--   multiple-times           a multiple by a whole number is a product with it
 --   multiple-multiple        multiples of multiples with the same factor
 --   multiple-cancel          a multiple by a positive number is cancelled
 --   norm-times               |a b|² = |a|² |b|²
@@ -11,13 +12,13 @@
 --   root-le, root-equal      k² ≤ n² and k² = n² give k ≤ n and k = n
 --   norm-nonneg, norm-zero, norm-some      a norm is not negative, only 0 has norm 0, and any other pair a positive one
 --   pairs-domain             no zero divisors
---   pair-zero?               whether a pair is 0
+--   pair-equal?, pair-zero?  whether two pairs are equal; whether one is 0
 use mathlib.Core.Path.{_≡_, refl, sym, ap, ap₂, _∙_}
 use mathlib.Core.List.{[], _∷_}
-use mathlib.Core.Logic.{_≢_, ⊎-map}
+use mathlib.Core.Logic.{_≢_, ⊎-map, Dec·and}
 use Prim.Native.Nat.{ℕ, zero, suc, _+_, _*_, _≤_, _<_}
 use native.Mathlib.Nat.{le-of-eq, mul-le-mul}
-use native.Mathlib.Decide.{decLe}
+use native.Mathlib.Decide.{decLe, map-dec}
 use native.Mathlib.Omega.{arith}
 use lib.IntN.{ℤ, pos, negsuc, negℤ, natAbs, _+ℤ_, _-ℤ_, _*ℤ_, +ℤ-assoc, +ℤ-comm, +ℤ-idl, +ℤ-idr, +ℤ-invl, +ℤ-invr, *ℤ-comm, *ℤ-zero, zero-*ℤ, negℤ-negℤ, ℤ-discrete}
 use lib.Signed.{_≤ℤ_, _<ℤ_}
@@ -87,6 +88,18 @@ plus-minus a b = solve pairs-ring (a ∷ b ∷ []) (var 0 :+ var 1 :- var 0) (va
 pub multiple-none : (c : ℤ) → multiple c (pairs .none) ≡ pairs .none
 multiple-none c = pair-equal (*ℤ-zero c) (*ℤ-zero c)
 
+pub none-multiple : (a : Pair) → multiple (pos 0) a ≡ pairs .none
+none-multiple a = pair-equal (zero-*ℤ (a .re)) (zero-*ℤ (a .im))
+
+pub multiple-times : (c : ℤ) (a : Pair) → multiple c a ≡ times (pair c (pos 0)) a
+multiple-times c a =
+    pair-equal
+    (sym (ap (λ z. c *ℤ a .re -ℤ z) (zero-*ℤ (a .im)) ∙ +ℤ-idr (c *ℤ a .re)))
+    (sym (ap (λ z. c *ℤ a .im +ℤ z) (zero-*ℤ (a .re)) ∙ +ℤ-idr (c *ℤ a .im)))
+
+pub multiple-one : (a : Pair) → multiple (pos 1) a ≡ a
+multiple-one a = multiple-times (pos 1) a ∙ times-comm one a ∙ times-one a
+
 pub multiple-multiple : (a b c d : ℤ) (z : Pair) → a *ℤ b ≡ c *ℤ d → multiple a (multiple b z) ≡ multiple c (multiple d z)
 multiple-multiple a b c d z e = pair-equal (part (z .re)) (part (z .im))
   where
@@ -150,10 +163,8 @@ norm-some a h = by (natAbs (a .re) * natAbs (a .re) + natAbs (a .im) * natAbs (a
 pub pairs-domain : Domain pairs
 pairs-domain = record { splits = λ a b e. ⊎-map (norm-zero a) (norm-zero b) (*ℤ-domain (norm a) (norm b) (sym (norm-times a b) ∙ ap norm e)) }
 
+pub pair-equal? : (a b : Pair) → Dec (a ≡ b)
+pair-equal? a b = map-dec (λ (e, f). pair-equal e f) (λ h. (re-equal h, im-equal h)) (Dec·and (ℤ-discrete (a .re) (b .re)) (ℤ-discrete (a .im) (b .im)))
+
 pub pair-zero? : (a : Pair) → Dec (a ≡ pairs .none)
-pair-zero? a = by (ℤ-discrete (a .re) (pos 0)) (ℤ-discrete (a .im) (pos 0))
-  where
-    by : Dec (a .re ≡ pos 0) → Dec (a .im ≡ pos 0) → Dec (a ≡ pairs .none)
-    by (yes e) (yes f) = yes (pair-equal e f)
-    by (yes e) (no f) = no (λ h. f (ap (λ z. z .im) h))
-    by (no e) f = no (λ h. e (ap (λ z. z .re) h))
+pair-zero? a = pair-equal? a (pairs .none)

@@ -3,6 +3,7 @@
 --   operations           rules for `search`: a sum, difference, negative or product of two numbers that are known to be small fits
 --   pair-equal           two pairs with equal parts are equal,
 --   re-equal, im-equal   and the parts of equal pairs are
+--   three-none           three pairs that are all 0
 --   turned-parts         the parts of i a
 --   zero-within          0 is within every bound
 --   wider                a bound may be taken larger
@@ -10,7 +11,7 @@
 --   plus-within, minus-within, times-within, multiple-within       bounds of a sum, a difference, a product and a multiple
 use mathlib.Core.Path.{_≡_, refl, ap, ap₂, _∙_}
 use mathlib.Core.List.{[], _∷_}
-use Prim.Native.Nat.{ℕ, _+_, _*_, _^_, _≤_, zero-le}
+use Prim.Native.Nat.{ℕ, zero, suc, _+_, _*_, _^_, _≤_, zero-le}
 use native.Mathlib.Nat.{le-refl, le-trans, le-of-eq}
 use borrow.Author.Needs.{needs}
 use borrow.Author.Tests.{le-leb}
@@ -18,6 +19,7 @@ use lib.IntN.{ℤ, pos, negℤ, _+ℤ_, _-ℤ_, _*ℤ_, +ℤ-idl, *ℤ-comm, zer
 use mir.Syntax.{w64}
 use mir.Val.{SFits, toZ, ofZ}
 use Rattle.whole.specs.Number.{Within}
+use Rattle.poly.specs.Polynomials.{Same}
 use Rattle.whole.proofs.Integers.{*ℤ-1, abs-negative}
 use Rattle.whole.proofs.Wholes.{readℤ}
 use Rattle.whole.proofs.Bound.{Bounded, done, _▸_, bounds, within, fits, kept, scaled-within}
@@ -53,6 +55,12 @@ re-equal e = ap (λ (p : Pair). p .re) e
 
 pub im-equal : {a b : Pair} → a ≡ b → a .im ≡ b .im
 im-equal e = ap (λ (p : Pair). p .im) e
+
+pub three-none : {a b c : Pair} → a ≡ pairs .none → b ≡ pairs .none → c ≡ pairs .none → Same pairs (a ∷ b ∷ c ∷ []) []
+three-none x y z zero = x
+three-none x y z (suc zero) = y
+three-none x y z (suc (suc zero)) = z
+three-none x y z (suc (suc (suc k))) = refl
 
 pub turned-parts : (a : Pair) → times imaginary a ≡ pair (negℤ (a .im)) (a .re)
 turned-parts a =

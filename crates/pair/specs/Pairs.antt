@@ -1,5 +1,5 @@
 -- Pairs: x + iy with whole x and y, as the contracts speak of them.
---   pair, plus, minus, negative, times, multiple, conjugate, norm, one, imaginary      their algebra
+--   pair, plus, minus, negative, times, multiple, conjugate, norm, cross, one, imaginary      their algebra
 --   pairs              pairs as coefficients of polynomials
 --   PartsWithin b a    both parts are at most b away from zero
 --   AllWithin b ps     so are those of every pair of a list
@@ -7,7 +7,7 @@ use lib.IntN.{ℤ, pos, negℤ, _+ℤ_, _-ℤ_, _*ℤ_}
 use mathlib.Core.List.{List}
 use Prim.Native.Nat.{ℕ}
 use Rattle.pair.specs.declared.Pair.{Pair}
-use Rattle.whole.specs.Poly.{Coefficients, at}
+use Rattle.whole.specs.Coefficients.{Coefficients, at}
 use Rattle.whole.specs.Number.{Within}
 
 abbrev pub pair : ℤ → ℤ → Pair
@@ -33,6 +33,9 @@ conjugate a = pair (a .re) (negℤ (a .im))
 
 abbrev pub norm : Pair → ℤ
 norm a = a .re *ℤ a .re +ℤ a .im *ℤ a .im
+
+abbrev pub cross : Pair → Pair → ℤ
+cross a b = a .re *ℤ b .im -ℤ b .re *ℤ a .im
 
 abbrev pub one : Pair
 one = pair (pos 1) (pos 0)

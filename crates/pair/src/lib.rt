@@ -1,13 +1,12 @@
-// Pairs: complex numbers with whole parts. Their sums and products.
+// Pairs: complex numbers with whole parts. Their sums and products, and tests of them.
 // What is multiplied has parts of at most 2^30 in size, so that the parts of a product, and a norm, are at most 2^61. What is only added,
 // taken away or turned may be as large as a product.
 ghost use mathlib.Core.Path.{_≡_};
+ghost use mathlib.Core.List.{_∷_, []};
 ghost use Prim.Native.Nat.{_^_};
-ghost use lib.IntN.{pos, natAbs};
-ghost use lib.Signed.{_≤ℤ_};
 ghost use Rattle.whole.specs.Number.{Tells, Within};
-ghost use Rattle.pair.specs.Pairs.{pairs, PartsWithin};
-ghost use Rattle.pair.specs.Pairs.{plus, minus, negative, times, multiple, norm, imaginary};
+ghost use Rattle.poly.specs.Polynomials.{Same};
+ghost use Rattle.pair.specs.Pairs.{pairs, PartsWithin, plus, minus, negative, times, multiple, norm, cross, imaginary};
 
 pub struct Pair {
     pub re: i64,
@@ -96,6 +95,18 @@ pub fn norm(a: Pair) -> i64
     x * x + y * y
 }
 
+// a × b
+pub fn cross(a: Pair, b: Pair) -> i64
+    requires { ⌜ PartsWithin (2 ^ 30) a × PartsWithin (2 ^ 30) b ⌝ }
+    ensures { λ r. ⌜ r ≡ cross a b ⌝ }
+{
+    let x = a.re;
+    let y = a.im;
+    let u = b.re;
+    let v = b.im;
+    x * v - u * y
+}
+
 // Whether a pair is 0.
 pub fn is_zero(p: Pair) -> bool
     ensures { λ r. ⌜ Tells (p ≡ pairs .none) r ⌝ }
@@ -124,24 +135,37 @@ pub fn equal(a: Pair, b: Pair) -> bool
     true
 }
 
-// Whether both parts are at most `bound` away from zero.
-pub fn within(p: Pair, bound: i64) -> bool
-    requires { ⌜ pos 0 ≤ℤ bound ⌝ }
-    ensures { λ r. ⌜ Tells (PartsWithin (natAbs bound) p) r ⌝ }
+// Whether a, b and c are all 0.
+pub fn three_are_zero(a: Pair, b: Pair, c: Pair) -> bool
+    ensures { λ r. ⌜ Tells (Same pairs (a ∷ b ∷ c ∷ []) []) r ⌝ }
+{
+    if !is_zero(a) {
+        return false;
+    }
+    if !is_zero(b) {
+        return false;
+    }
+    is_zero(c)
+}
+
+// Whether both parts are at most `bound` away from zero. Compared here and not by `whole::within`: so short, it is taken into its callers.
+pub fn within(p: Pair, bound: u32) -> bool
+    ensures { λ r. ⌜ Tells (PartsWithin bound p) r ⌝ }
 {
     let x = p.re;
     let y = p.im;
-    let least = 0 - bound;
+    let most = bound as i64;
+    let least = 0 - most;
     if x < least {
         return false;
     }
-    if bound < x {
+    if most < x {
         return false;
     }
     if y < least {
         return false;
     }
-    if bound < y {
+    if most < y {
         return false;
     }
     true

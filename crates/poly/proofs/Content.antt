@@ -15,7 +15,8 @@ use mathlib.Core.List.{List, [], _∷_}
 use mathlib.Core.Logic.{_≢_}
 use Prim.Native.Nat.{zero, suc}
 use lib.IntN.{pos}
-use Rattle.whole.specs.Poly.{Coefficients, at, Same, Divides, Greatest, scaled, product}
+use Rattle.whole.specs.Coefficients.{Coefficients, at, Divides, Greatest}
+use Rattle.poly.specs.Polynomials.{Same, scaled, product}
 use Rattle.whole.proofs.Divisor.{divides-none, divides-trans, common-cons}
 use Rattle.whole.proofs.Ring.{Ring, none-times, times-none}
 use Rattle.poly.specs.Terms.{Throughout, IsUnit, Primitive}

@@ -9,7 +9,7 @@
 use mathlib.Core.Path.{_≡_, sym, ap, ap₂, _∙_}
 use mathlib.Core.List.{[], _∷_}
 use lib.IntN.{pos}
-use Rattle.whole.specs.Poly.{Coefficients, Divides}
+use Rattle.whole.specs.Coefficients.{Coefficients, Divides}
 use Rattle.whole.proofs.Divisor.{divides-self, divides-plus, divides-multiple, divides-trans}
 use Rattle.whole.proofs.Ring.{Ring}
 use Rattle.whole.proofs.Solver.{var, _:+_, _:-_, _:*_, solve, atoms, ring, read}

@@ -12,7 +12,8 @@ use mathlib.Core.List.{List, [], _∷_}
 use mathlib.Core.Logic.{_≢_, _⊎_, inl, inr, ⊎-elim, ⊎-map}
 use Prim.Native.Nat.{ℕ, zero, suc}
 use lib.IntN.{pos, negsuc}
-use Rattle.whole.specs.Poly.{Coefficients, at, Same, sum, scaled, product, square}
+use Rattle.whole.specs.Coefficients.{Coefficients, at}
+use Rattle.poly.specs.Polynomials.{Same, sum, scaled, product, square}
 use Rattle.whole.proofs.Ring.{Ring, none-plus, none-times, times-none, plus-cancel, zero-difference}
 use Rattle.whole.proofs.Solver.{atoms, ring, read, read-lit}
 use Rattle.poly.specs.Terms.{twice}

@@ -9,7 +9,7 @@ use Prim.Native.Nat.{ℕ, zero, suc, _<_}
 use native.Mathlib.Nat.{lt-suc-self}
 use native.Mathlib.Omega.{arith}
 use lib.IntN.{pos}
-use Rattle.whole.specs.Poly.{Coefficients, Divides}
+use Rattle.whole.specs.Coefficients.{Coefficients, Divides}
 use Rattle.whole.proofs.Divisor.{divides-none, divides-self, divides-plus, divides-multiple}
 use Rattle.whole.proofs.Ring.{Ring, times-none}
 use Rattle.whole.proofs.Solver.{atoms, ring, read}

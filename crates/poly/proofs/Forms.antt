@@ -1,14 +1,15 @@
 -- Values of a polynomial at fractions, without fractions: sⁿ f(v / s), for a series f over any ring.
 --   power s n, form s v n f       sⁿ⁺¹; sⁿ f₀ + sⁿ⁻¹ v f₁ + .. + vⁿ fₙ
+--   form-agree                    f₀ .. fₙ alone decide it
 --   form-plus, form-times         it is linear
 --   form-shorter                  where the last coefficient is 0 it is s times the form of one degree less
 --   form-product                  the form of a product, where no factor has a power above its degree
 use mathlib.Core.Path.{_≡_, refl, sym, ap, ap₂, _∙_, fun-ext}
 use mathlib.Core.List.{[], _∷_}
-use Prim.Native.Nat.{ℕ, zero, suc, _+_}
+use Prim.Native.Nat.{ℕ, zero, suc, _+_, _≤_}
 use native.Mathlib.Nat.{zero-add, suc-add}
 use native.Mathlib.Omega.{arith}
-use Rattle.whole.specs.Poly.{Coefficients}
+use Rattle.whole.specs.Coefficients.{Coefficients}
 use Rattle.whole.proofs.Ring.{Ring, times-none}
 use Rattle.whole.proofs.Solver.{atoms, read, ring}
 use Rattle.poly.specs.Terms.{Above}
@@ -23,6 +24,11 @@ module _ {A : Type 0} (C : Coefficients A) (s : A) where
   abbrev pub form : A → ℕ → Series A → A
   form v zero f = f zero
   form v (suc n) f = C .plus (C .times (power n) (f zero)) (C .times v (form v n (tail f)))
+
+  pub form-agree : (v : A) (n : ℕ) (f g : Series A) → ((k : ℕ) → k ≤ n → f k ≡ g k) → form v n f ≡ form v n g
+  form-agree v zero f g e = e zero (omega arith)
+  form-agree v (suc n) f g e =
+      ap₂ (λ x y. C .plus (C .times (power n) x) (C .times v y)) (e zero (omega arith)) (form-agree v n (tail f) (tail g) (λ k l. e (suc k) (omega arith)))
 
 module _ {A : Type 0} {C : Coefficients A} (R : Ring C) (s v : A) where
   open Coefficients C using (none as 𝟎, plus as _⊕_, times as _⊗_)

@@ -6,8 +6,6 @@ pub mod Value
 pub mod Domain
 pub mod Top
 pub mod Forms
-pub mod Binomials
-pub mod Blends
 pub mod Divisibility
 pub mod Gauss
 pub mod Content
@@ -17,3 +15,4 @@ pub mod Roots
 pub mod Shift
 pub mod Wholes
 pub mod RootTwo
+pub mod Deciding

@@ -13,7 +13,8 @@ use mathlib.Core.Path.{_≡_, refl, sym, ap, ap₂, _∙_, fun-ext}
 use mathlib.Core.List.{List, [], _∷_}
 use Prim.Native.Nat.{ℕ, zero, suc}
 use lib.IntN.{pos, negsuc}
-use Rattle.whole.specs.Poly.{Coefficients, at, Same, sum, scaled, product, square}
+use Rattle.whole.specs.Coefficients.{Coefficients, at}
+use Rattle.poly.specs.Polynomials.{Same, sum, scaled, product, square}
 use Rattle.whole.proofs.Ring.{Ring, times-none, none-times, none-plus, minus-one}
 use Rattle.poly.proofs.Series.{conv, conv-none, conv-comm, conv-constant, scaled-conv}
 

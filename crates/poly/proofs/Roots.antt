@@ -10,7 +10,8 @@ use Prim.Native.Nat.{ℕ, zero, suc, _+_}
 use native.Mathlib.Nat.{suc-add, zero-add, add-zero, add-suc}
 use native.Mathlib.Omega.{arith}
 use lib.IntN.{negsuc}
-use Rattle.whole.specs.Poly.{Coefficients, at, Same, scaled, square}
+use Rattle.whole.specs.Coefficients.{Coefficients, at}
+use Rattle.poly.specs.Polynomials.{Same, scaled, square}
 use Rattle.whole.proofs.Ring.{Ring, none-plus}
 use Rattle.whole.proofs.Solver.{atoms, ring, read, read-none, read-lit⁻}
 use Rattle.poly.specs.Terms.{Above, Top, RootAt, twice}

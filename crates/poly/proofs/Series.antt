@@ -11,7 +11,7 @@ use mathlib.Core.Path.{_≡_, refl, sym, ap, ap₂, _∙_, fun-ext}
 use mathlib.Core.List.{[], _∷_}
 use Prim.Native.Nat.{ℕ, zero, suc}
 use lib.IntN.{pos}
-use Rattle.whole.specs.Poly.{Coefficients, at}
+use Rattle.whole.specs.Coefficients.{Coefficients, at}
 use Rattle.whole.proofs.Ring.{Ring, times-none, none-times}
 use Rattle.whole.proofs.Solver.{atoms, ring, read}
 

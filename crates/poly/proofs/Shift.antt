@@ -5,7 +5,8 @@ use mathlib.Core.Path.{_≡_, refl, sym, ap, ap₂, _∙_}
 use mathlib.Core.List.{List, [], _∷_}
 use mathlib.Core.Logic.{⊎-elim}
 use Prim.Native.Nat.{ℕ, zero, suc}
-use Rattle.whole.specs.Poly.{Coefficients, at, Same, product, square}
+use Rattle.whole.specs.Coefficients.{Coefficients, at}
+use Rattle.poly.specs.Polynomials.{Same, product, square}
 use Rattle.whole.proofs.Ring.{Ring, none-plus, none-times, times-none}
 use Rattle.poly.proofs.Series.{Series, tail, conv, conv-suc, conv-last}
 use Rattle.poly.proofs.Lists.{at-product, square-same}

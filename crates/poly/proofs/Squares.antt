@@ -4,16 +4,14 @@
 --   root-same            p = c q² says something of the polynomial q, however it is written
 --   square-multiple      back again: f = u r² gives c f = (c u) r²
 --   primitive-squares    κ w² = κ′ w′² with w and w′ primitive and κ not 0: w² = u w′² and κ′ = κ u for a unit u
---   quadratic-square     the five coefficients of the square of a quadratic
 -- So only p divided by its content has to be tried for a root, and only up to a unit.
-use mathlib.Core.Path.{_≡_, refl, sym, _∙_}
-use mathlib.Core.List.{List, [], _∷_}
+use mathlib.Core.Path.{_≡_, sym, _∙_}
+use mathlib.Core.List.{List, []}
 use mathlib.Core.Logic.{_≢_}
-use Prim.Native.Nat.{zero, suc}
-use Rattle.whole.specs.Poly.{Coefficients, Same, Greatest, sum, scaled, product, square}
+use Rattle.whole.specs.Coefficients.{Coefficients, Greatest}
+use Rattle.poly.specs.Polynomials.{Same, scaled, square}
 use Rattle.whole.proofs.Ring.{Ring}
-use Rattle.whole.proofs.Solver.{atoms, read, read-none, ring}
-use Rattle.poly.specs.Terms.{twice, IsUnit, Primitive}
+use Rattle.poly.specs.Terms.{IsUnit, Primitive}
 use Rattle.poly.proofs.Lists.{product-none, scaled-none, scaled-same, scaled-scaled, square-same, square-scaled}
 use Rattle.poly.proofs.Domain.{Domain}
 use Rattle.poly.proofs.Divisibility.{Bezout}
@@ -78,19 +76,3 @@ module _ {A : Type 0} {C : Coefficients A} (R : Ring C) (B : Bezout C) (D : Doma
   pub square-quotient : {p : List A} {c : A} (c′ : A) (f q : List A) → c ≢ 𝟎 → Greatest C p c
       → Same C (scaled C c f) p → Same C p (scaled C c′ (square C q)) → UnitSquare C c c′ f q
   square-quotient {c} c′ f q n g e h = square-primitive c c′ f q n (quotient-primitive R D f n g e) (λ k. e k ∙ h k)
-
--- ---- written out
-module _ {A : Type 0} {C : Coefficients A} (R : Ring C) where
-  open Coefficients C using (plus as _⊕_, times as _⊗_)
-
-  infixl 60 _⊕_
-  infixl 70 _⊗_
-  pub quadratic-square : (a b c : A) → Same C (square C (a ∷ b ∷ c ∷ []))
-      ((a ⊗ a) ∷ (twice C a ⊗ b) ∷ (twice C a ⊗ c ⊕ b ⊗ b) ∷ (twice C b ⊗ c) ∷ (c ⊗ c) ∷ [])
-  unfolding sum scaled product
-  quadratic-square a b c zero = atoms R (a ∷ b ∷ c ∷ []) (λ ρ e. simp (e 0, read, read-none R ρ) (ring R ρ _ _ tt))
-  quadratic-square a b c (suc zero) = atoms R (a ∷ b ∷ c ∷ []) (λ ρ e. simp (e 0, e 1, read, read-none R ρ) (ring R ρ _ _ tt))
-  quadratic-square a b c (suc (suc zero)) = atoms R (a ∷ b ∷ c ∷ []) (λ ρ e. simp (e 0, e 1, e 2, read, read-none R ρ) (ring R ρ _ _ tt))
-  quadratic-square a b c (suc (suc (suc zero))) = atoms R (a ∷ b ∷ c ∷ []) (λ ρ e. simp (e 1, e 2, read) (ring R ρ _ _ tt))
-  quadratic-square a b c (suc (suc (suc (suc zero)))) = atoms R (a ∷ b ∷ c ∷ []) (λ ρ e. simp (e 2, read) (ring R ρ _ _ tt))
-  quadratic-square a b c (suc (suc (suc (suc (suc k))))) = refl

@@ -1,6 +1,6 @@
 -- Highest powers and their coefficients.
 --   length-above                    a list has no power from its length on
---   listed, listed-same             the list of the coefficients up to n: it is the whole polynomial where there is no power above n
+--   listed-above, listed-same       the list of the coefficients up to n has no power above n, and is the whole polynomial where there is none
 --   above-lowered                   where there is no power above m + 1, nor at m + 1, there is none above m
 --   conv-above, conv-lead           above m + n a product of series of degrees m and n is 0, and there it is the product of the two leads
 --   product-above, product-lead     the same of lists
@@ -23,9 +23,10 @@ use native.Mathlib.Nat.{suc-add, zero-add}
 use native.Mathlib.Decide.{ℕ-discrete}
 use native.Mathlib.Omega.{arith}
 use lib.ListN.{length, List·getD-eq-default}
-use Rattle.whole.specs.Poly.{Coefficients, at, Same, scaled, product, square}
+use Rattle.whole.specs.Coefficients.{Coefficients, at}
+use Rattle.poly.specs.Polynomials.{Same, scaled, product, square}
 use Rattle.whole.proofs.Ring.{Ring, none-plus, times-none}
-use Rattle.poly.specs.Terms.{Above, Top}
+use Rattle.poly.specs.Terms.{Above, Top, listed}
 use Rattle.poly.proofs.Series.{Series, tail, conv, conv-suc, conv-none}
 use Rattle.poly.proofs.Lists.{at-scaled, at-product, product-none, scaled-none}
 use Rattle.poly.proofs.Domain.{Domain, UpToSign}
@@ -34,15 +35,16 @@ module _ {A : Type 0} (C : Coefficients A) where
   pub length-above : (p : List A) (m : ℕ) → length p ≤ suc m → Above C (at C p) m
   length-above p m l k h = List·getD-eq-default p (C .none) (omega arith)
 
-  abbrev pub listed : ℕ → Series A → List A
-  listed zero f = f zero ∷ []
-  listed (suc n) f = f zero ∷ listed n (tail f)
-
   pub listed-same : (n : ℕ) (f : Series A) → Above C f n → (k : ℕ) → f k ≡ at C (listed n f) k
   listed-same zero f u zero = refl
   listed-same zero f u (suc k) = u (suc k) (omega arith)
   listed-same (suc n) f u zero = refl
   listed-same (suc n) f u (suc k) = listed-same n (tail f) (λ j h. u (suc j) (omega arith)) k
+
+  pub listed-above : (n : ℕ) (f : Series A) → Above C (at C (listed n f)) n
+  listed-above n f zero h = absurd (omega arith)
+  listed-above zero f (suc k) h = refl
+  listed-above (suc n) f (suc k) h = listed-above n (tail f) k (omega arith)
 
   pub above-lowered : {f : Series A} {m : ℕ} → Above C f (suc m) → f (suc m) ≡ C .none → Above C f m
   above-lowered {f} {m} u e k h = by (ℕ-discrete k (suc m))

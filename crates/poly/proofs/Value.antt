@@ -5,7 +5,8 @@
 use mathlib.Core.Path.{_≡_, refl, sym, ap, ap₂, _∙_}
 use mathlib.Core.List.{List, [], _∷_}
 use Prim.Native.Nat.{zero, suc}
-use Rattle.whole.specs.Poly.{Coefficients, Same, sum, scaled, product, square}
+use Rattle.whole.specs.Coefficients.{Coefficients}
+use Rattle.poly.specs.Polynomials.{Same, sum, scaled, product, square}
 use Rattle.whole.proofs.Ring.{Ring, none-plus, none-times, times-none}
 use Rattle.whole.proofs.Solver.{atoms, ring, read}
 use Rattle.poly.specs.Terms.{value}

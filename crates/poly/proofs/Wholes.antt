@@ -15,7 +15,8 @@ use native.Mathlib.Omega.{arith}
 use lib.IntN.{ℤ, pos, negsuc, natAbs, ℤ-discrete, _*ℤ_}
 use lib.Signed.{quotZ, remZ, _≤ℤ_, _<ℤ_}
 use Rattle.whole.specs.Number.{wholes}
-use Rattle.whole.specs.Poly.{at, Same, Divides, Greatest, scaled, square}
+use Rattle.whole.specs.Coefficients.{at, Divides, Greatest}
+use Rattle.poly.specs.Polynomials.{Same, scaled, square}
 use Rattle.whole.proofs.Division.{quotient-rest, rest-below}
 use Rattle.whole.proofs.Divisor.{divides-abs, greatest-says, greatest-is, greatest-once}
 use Rattle.whole.proofs.Integers.{abs-times, abs-zero, *ℤ-domain, abs-one}

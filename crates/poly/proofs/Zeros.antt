@@ -7,7 +7,8 @@ use mathlib.Core.List.{List, [], _∷_, _++_}
 use Prim.Native.Nat.{ℕ, zero, suc}
 use native.Mathlib.Omega.{arith}
 use lib.ListN.{drop, replicate}
-use Rattle.whole.specs.Poly.{Coefficients, at, Same}
+use Rattle.whole.specs.Coefficients.{Coefficients, at}
+use Rattle.poly.specs.Polynomials.{Same}
 use Rattle.poly.specs.Terms.{Above}
 
 module _ {A : Type 0} (C : Coefficients A) where

@@ -1,2 +1,3 @@
 -- The words of the theorems.
+pub mod Polynomials
 pub mod Terms

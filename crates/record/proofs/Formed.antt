@@ -19,11 +19,11 @@ use Rattle.pair.specs.declared.Pair.{Pair}
 use Rattle.curve.specs.declared.Curve.{Curve}
 use Rattle.curve.specs.declared.Curve.the-variants as curves
 use Rattle.curve.specs.Curves.{pointsOf, InRange}
-use Rattle.record.specs.Numbers.{wordAt, signed, coordinates, paired, bits, wordBytes, encoded}
+use Rattle.record.specs.Numbers.{wordAt, signedOf, coordinates, paired, bits, wordBytes, encoded}
 use Rattle.record.specs.declared.kinds.Kind.{Kind}
 use Rattle.record.specs.declared.kinds.Row.{Row}
 use Rattle.record.specs.Kinds.{rowOf, words, kindOf, numbersOf, formed, recordOf, pointsIn}
-use Rattle.record.specs.Steps.{named, allWithin}
+use Rattle.record.specs.Records.{named, allWithin}
 use Rattle.refusal.specs.Answers.{if_then_else_}
 use Rattle.refusal.proofs.Answers.{both-true}
 use Rattle.record.proofs.Table.{row-known, own-name, headOf, head-of-row}
@@ -59,7 +59,7 @@ numbers-back [] a = refl
 numbers-back (x ∷ xs) a =
     let m = both-true (leb (natAbs x) 20000) (allWithin xs) a in
     let w : Within 20000 x = record { size = leb-true (natAbs x) 20000 (m .0) } in
-    let e : signed (wordAt (wordBytes (bits x) ++ encoded xs) 0) ≡ x = ap signed (word-back (bits x) (encoded xs) (bits-small x w)) ∙ signed-bits x w in
+    let e : signedOf (wordAt (wordBytes (bits x) ++ encoded xs) 0) ≡ x = ap signedOf (word-back (bits x) (encoded xs) (bits-small x w)) ∙ signed-bits x w in
     let r : coordinates (length xs) (wordBytes (bits x) ++ encoded xs) 4 ≡ xs = shifted (length xs) (wordBytes (bits x)) (encoded xs) ∙ numbers-back xs (m .1) in
     λ i. e i ∷ r i
 

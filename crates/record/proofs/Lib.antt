@@ -3,6 +3,9 @@ pub mod Table
 pub mod Signs
 pub mod Loops
 pub mod Pieces
+pub mod Erased
 pub mod Shown
 pub mod Formed
 pub mod Putting
+pub mod Kept
+pub mod Once

@@ -16,8 +16,8 @@ use lib.Seq.{drop-cons}
 use borrow.Author.Tests.{eq-eqb, ne-eqb, leb-true}
 use Rattle.whole.specs.Number.{Within}
 use Rattle.refusal.specs.Answers.{if_then_else_}
-use Rattle.record.specs.Numbers.{wordAt, signed, coordinates}
-use Rattle.record.specs.Steps.{erasedBytes, allWithin}
+use Rattle.record.specs.Numbers.{wordAt, signedOf, coordinates}
+use Rattle.record.specs.Records.{erased, erasedBytes, allWithin}
 use Rattle.refusal.proofs.Answers.{both-true}
 
 -- ---- the erased bytes
@@ -26,11 +26,11 @@ pub erased-all : (s : List ℕ) (i : ℕ) → length s ≤ i → i ≡ i + erase
 unfolding if_then_else_
 erased-all s i h = rw (drop-of-length-le s {i = i} h) (omega arith)
 
-pub erased-stop : (s : List ℕ) (i : ℕ) → i < length s → (getD s i 0 ≡ 255 → ⊥) → i ≡ i + erasedBytes (drop i s)
+pub erased-stop : (s : List ℕ) (i : ℕ) → i < length s → (getD s i 0 ≡ erased → ⊥) → i ≡ i + erasedBytes (drop i s)
 unfolding if_then_else_
 erased-stop s i h k = rw (drop-cons s i 0 h, ne-eqb _ _ k) (omega arith)
 
-pub erased-more : (s : List ℕ) (i : ℕ) → i < length s → getD s i 0 ≡ 255 → i + 1 + erasedBytes (drop (i + 1) s) ≡ i + erasedBytes (drop i s)
+pub erased-more : (s : List ℕ) (i : ℕ) → i < length s → getD s i 0 ≡ erased → i + 1 + erasedBytes (drop (i + 1) s) ≡ i + erasedBytes (drop i s)
 unfolding if_then_else_
 erased-more s i h k = rw (drop-cons s i 0 h, eq-eqb _ _ k, add-one) (omega arith)
 
@@ -42,13 +42,13 @@ within-none s at zero l = refl
 within-none s at (suc m) l = absurd (omega arith)
 
 pub within-fail :
-    (s : List ℕ) (at left : ℕ) → 0 < left → leb (natAbs (signed (wordAt s at))) 20000 ≡ false → false ≡ allWithin (coordinates left s at)
+    (s : List ℕ) (at left : ℕ) → 0 < left → leb (natAbs (signedOf (wordAt s at))) 20000 ≡ false → false ≡ allWithin (coordinates left s at)
 unfolding coordinates allWithin
 within-fail s at zero l e = absurd (omega arith)
 within-fail s at (suc m) l e = rw e
 
 pub within-pass :
-    (s : List ℕ) (at left : ℕ) → 0 < left → leb (natAbs (signed (wordAt s at))) 20000 ≡ true →
+    (s : List ℕ) (at left : ℕ) → 0 < left → leb (natAbs (signedOf (wordAt s at))) 20000 ≡ true →
     allWithin (coordinates (left - 1) s (at + 4)) ≡ allWithin (coordinates left s at)
 unfolding coordinates allWithin
 within-pass s at zero l e = absurd (omega arith)

@@ -1,5 +1,6 @@
 -- Lists that are written over.
 --   put-four                   four stores in a row are one piece
+--   written-long, written-before, written-behind   a piece changes neither the length nor a byte elsewhere
 --   encoded-long               how many bytes numbers take
 --   words-none, words-more, words-all   the numbers of a record, written one after another
 use mathlib.Core.Path.{_≡_, refl, sym, ap, _∙_}
@@ -8,8 +9,8 @@ use Prim.Native.Nat.{ℕ, _+_, _-_, _*_, _/_, _%_, _≤_, _<_}
 use native.Mathlib.Omega.{arith}
 use native.Mathlib.Numerals.{add-one, add-two, add-three}
 use lib.IntN.{ℤ, pos}
-use lib.ListN.{length, take, drop, set, getD, replicate, length-append, drop-of-length-le, take-append-drop}
-use lib.Seq.{sets-eq, drop-length, take-suc, take-length, length-take-le, take-at, drop-drop, drop-append-add}
+use lib.ListN.{length, take, drop, set, getD, replicate, length-append, length-drop, drop-of-length-le, take-append-drop, List·getD-append}
+use lib.Seq.{sets-eq, drop-length, take-suc, take-length, length-take-le, take-at, drop-drop, drop-append-add, getD-take, getD-drop, getD-append-add}
 use Rattle.record.specs.Numbers.{bits, wordBytes, encoded, written}
 
 -- ---- a piece
@@ -20,6 +21,32 @@ pub put-four :
 put-four s at a b c d l =
     rw (add-one at, add-two at, add-three at)
     (sets-eq (a ∷ b ∷ c ∷ d ∷ []) s at l ∙ append-assoc (take at s) (a ∷ b ∷ c ∷ d ∷ []) (drop (at + 4) s))
+
+-- what is written over a list changes neither its length nor a byte elsewhere
+pub written-long : (s : List ℕ) (at : ℕ) (x : List ℕ) → at + length x ≤ length s → length (written s at x) ≡ length s
+written-long s at x l =
+    omega (
+      arith,
+      length-append (take at s) (x ++ drop (at + length x) s),
+      length-append x (drop (at + length x) s),
+      length-take-le at s (omega arith),
+      length-drop (at + length x) s,
+    )
+
+pub written-before : (s : List ℕ) (at : ℕ) (x : List ℕ) (i : ℕ) → at ≤ length s → i < at → getD (written s at x) i 0 ≡ getD s i 0
+written-before s at x i l h =
+    List·getD-append (take at s) (x ++ drop (at + length x) s) 0 i (omega (arith, length-take-le at s l)) ∙ getD-take at s i 0 h
+
+pub written-behind : (s : List ℕ) (at : ℕ) (x : List ℕ) (i : ℕ) → at ≤ length s → at + length x ≤ i → getD (written s at x) i 0 ≡ getD s i 0
+written-behind s at x i l h =
+    let rest = drop (at + length x) s in
+    let n = i - (at + length x) in
+    let front : i ≡ length (take at s) + (length x + n) = omega (arith, length-take-le at s l) in
+    ap (λ (k : ℕ). getD (written s at x) k 0) front
+    ∙ getD-append-add (take at s) (x ++ rest) (length x + n) 0
+    ∙ getD-append-add x rest n 0
+    ∙ getD-drop (at + length x) s n 0
+    ∙ ap (λ (k : ℕ). getD s k 0) (omega arith)
 
 -- ---- the numbers of a record
 

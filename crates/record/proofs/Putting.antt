@@ -21,7 +21,7 @@ use Rattle.record.specs.declared.writes.Put.{Put}
 use Rattle.record.specs.declared.writes.Put.the-variants as put
 use Rattle.record.specs.Numbers.{encoded, written}
 use Rattle.record.specs.Kinds.{rowOf, kindOf, numbersOf, formed}
-use Rattle.record.specs.Steps.{allWithin}
+use Rattle.record.specs.Records.{allWithin}
 use Rattle.record.specs.Promise.{puttingAt, PutsAt}
 
 pub put-back : (s : List ℕ) (at n : ℕ) (x : List ℕ) → length x ≡ n → take at s ++ (x ++ drop (at + n - at) (drop at s)) ≡ written s at x

@@ -1,8 +1,8 @@
 -- What a step shows of the bytes at its place, and the bytes that make it.
 --   Holds         a record of a kind stands at the start of the bytes
---   Shown         what a step says of the bytes: all erased, a fault within them, or a record
+--   Shown         what a step says of the bytes: all erased, a fault with its place, or a record
 --   fault-near    a fault's place lies within the bytes
---   AllErased     every byte is FF
+--   fault-placed  LEFTOVER stands at the first byte that is not FF, every other fault at the record's first byte
 --   erased-ends   such bytes end the sheet.             ends-erased   bytes that end the sheet are such
 --   coordinates-same   the same bytes are the same coordinates
 --   Whole         a list that is a record of a kind and nothing more
@@ -18,17 +18,20 @@ use lib.ListN.{length, getD, take, length-append, List·getD-append}
 use lib.Seq.{length-take-le, getD-take}
 use borrow.Author.Tests.{eqb-true, eqb-false, ltb-true, ltb-false, eq-eqb, ne-eqb, le-ltb, not-false}
 use Rattle.refusal.specs.declared.Refusal.{Refusal}
+use Rattle.refusal.specs.declared.Refusal.the-variants as refusal
+use Rattle.refusal.specs.Table.{numberOf}
 use Rattle.refusal.specs.Answers.{if_then_else_}
 use Rattle.record.specs.Numbers.{sizeOf, coordinates}
 use Rattle.record.specs.declared.kinds.Kind.{Kind}
 use Rattle.record.specs.declared.kinds.Named.{Named}
 use Rattle.record.specs.declared.kinds.Named.the-variants as named-as
 use Rattle.record.specs.Kinds.{rowOf, kinds, words}
-use Rattle.record.specs.Steps.{erasedBytes, erasedStep, named, kindIn, allWithin, sizedStep, kindStep, stepOf}
+use Rattle.record.specs.Records.{erased, erasedLength, erasedBytes, erasedStep, named, kindIn, allWithin, sizedStep, kindStep, stepOf}
 use Rattle.record.specs.declared.steps.Step.{Step}
 use Rattle.record.specs.declared.steps.Step.the-variants as step
 use Rattle.refusal.proofs.Answers.{by-test}
 use Rattle.record.proofs.Table.{row-known, known-kind, named-is}
+use Rattle.record.proofs.Erased.{AllErased, all-erased, erased-at, FirstLeft, first-left}
 
 pub record Holds (k : Kind) (bytes : List ℕ) : Type 0 where
   pub fits : rowOf k .size ≤ length bytes
@@ -36,32 +39,11 @@ pub record Holds (k : Kind) (bytes : List ℕ) : Type 0 where
   pub name-is : named k bytes ≡ true
   pub range : allWithin (coordinates (words k) bytes 4) ≡ true
 
-abbrev pub AllErased : List ℕ → Type 0
-AllErased bytes = (i : ℕ) → i < length bytes → getD bytes i 0 ≡ 255
-
 pub data Shown (bytes : List ℕ) : Step → Type 0 where
   ends : AllErased bytes → Shown bytes step.Ends
-  faults : {r : Refusal} {offset : ℕ} → offset ≤ length bytes → Shown bytes (step.Fault r offset)
+  leftover : {offset : ℕ} → FirstLeft bytes 0 offset → Shown bytes (step.Fault refusal.Leftover offset)
+  faults : {r : Refusal} → (numberOf r ≡ numberOf refusal.Leftover → ⊥) → Shown bytes (step.Fault r 0)
   holds : {k : Kind} → Holds k bytes → Shown bytes (step.Record k)
-
--- ---- the erased tail
-
-erased-at : (bytes : List ℕ) (i : ℕ) → i < erasedBytes bytes → getD bytes i 0 ≡ 255
-erased-at [] i h = absurd (not-suc-le-zero h)
-erased-at (b ∷ bytes) i h =
-    by-test (λ (n : ℕ). i < n → getD (b ∷ bytes) i 0 ≡ 255) (eqb b 255)
-    (λ e l. inside (eqb-true _ _ e) i l (λ j m. erased-at bytes j m))
-    (λ e l. absurd (not-suc-le-zero l))
-    h
-  where
-    inside : b ≡ 255 → (i : ℕ) → i < suc (erasedBytes bytes) → ((j : ℕ) → j < erasedBytes bytes → getD bytes j 0 ≡ 255) → getD (b ∷ bytes) i 0 ≡ 255
-    inside q zero l f = q
-    inside q (suc j) l f = f j (le-of-suc-le-suc l)
-
-all-erased : (bytes : List ℕ) → AllErased bytes → erasedBytes bytes ≡ length bytes
-unfolding if_then_else_
-all-erased [] f = refl
-all-erased (b ∷ bytes) f = rw (eq-eqb _ _ (f 0 (omega arith))) (ap suc (all-erased bytes (λ i l. f (suc i) (omega arith))))
 
 -- ---- from the step to the bytes
 
@@ -69,18 +51,18 @@ module _ (bytes : List ℕ) where
   sized-shown : (k : Kind) → named k bytes ≡ true → Shown bytes (sizedStep k bytes)
   unfolding sizedStep
   sized-shown k n =
-      by-test (Shown bytes) _ (λ _. faults (omega arith)) (λ s.
-      by-test (Shown bytes) _ (λ _. faults (omega arith)) (λ l.
-      by-test (Shown bytes) _ (λ _. faults (omega arith)) (λ v.
+      by-test (Shown bytes) _ (λ _. faults (λ q. omega arith)) (λ s.
+      by-test (Shown bytes) _ (λ _. faults (λ q. omega arith)) (λ l.
+      by-test (Shown bytes) _ (λ _. faults (λ q. omega arith)) (λ v.
       holds (record { fits = ltb-false _ _ l; size-is = eqb-true _ _ (not-false _ s); name-is = n; range = not-false _ v }))))
 
   kind-shown : (x : Named) → kindIn kinds bytes ≡ x → Shown bytes (kindStep bytes x)
   kind-shown (named-as.Kind k) e = sized-shown k (named-is kinds bytes k e)
-  kind-shown named-as.Unknown e = faults {offset = 0} (omega arith)
+  kind-shown named-as.Unknown e = faults {r = refusal.Kind} (λ q. omega arith)
 
   erased-shown : Shown bytes (erasedStep bytes)
   unfolding erasedStep
-  erased-shown = by-test (Shown bytes) _ (λ e. let l : erasedBytes bytes < length bytes = ltb-true _ _ e in faults (omega arith)) (λ e. let l : length bytes ≤ erasedBytes bytes = ltb-false _ _ e in ends (λ i h. erased-at bytes i (omega arith)))
+  erased-shown = by-test (Shown bytes) _ (λ e. leftover (first-left bytes (ltb-true _ _ e))) (λ e. let l : length bytes ≤ erasedBytes bytes = ltb-false _ _ e in ends (λ i h. erased-at bytes i (omega arith)))
 
   shown : Shown bytes (stepOf bytes)
   unfolding stepOf
@@ -89,10 +71,10 @@ module _ (bytes : List ℕ) where
       by-test (Shown bytes) _
       (λ o.
       let q : length bytes ≡ 1 = eqb-true _ _ o in
-      by-test (Shown bytes) _ (λ f. ends (λ i h. let z : i ≡ 0 = omega arith in rw z (eqb-true _ _ f))) (λ _. faults (omega arith)))
+      by-test (Shown bytes) _ (λ f. ends (λ i h. let z : i ≡ 0 = omega arith in rw z (eqb-true _ _ f))) (λ _. faults (λ q. omega arith)))
       (λ _.
       by-test (Shown bytes) _ (λ _. erased-shown) (λ _.
-      by-test (Shown bytes) _ (λ _. faults (omega arith)) (λ _. kind-shown (kindIn kinds bytes) refl))))
+      by-test (Shown bytes) _ (λ _. faults (λ q. omega arith)) (λ _. kind-shown (kindIn kinds bytes) refl))))
 
 held-in : {bytes : List ℕ} {k : Kind} → Shown bytes (step.Record k) → Holds k bytes
 held-in (holds h) = h
@@ -107,10 +89,21 @@ pub ends-erased : (bytes : List ℕ) → stepOf bytes ≡ step.Ends → AllErase
 ends-erased bytes e = erased-in (subst (Shown bytes) e (shown bytes))
 
 near-in : {bytes : List ℕ} {r : Refusal} {offset : ℕ} → Shown bytes (step.Fault r offset) → offset ≤ length bytes
-near-in (faults l) = l
+near-in (leftover f) = omega (arith, f .inside)
+near-in (faults n) = omega arith
 
 pub fault-near : (bytes : List ℕ) (r : Refusal) (offset : ℕ) → stepOf bytes ≡ step.Fault r offset → offset ≤ length bytes
 fault-near bytes r offset e = near-in (subst (Shown bytes) e (shown bytes))
+
+-- where a fault stands: LEFTOVER at the first byte that is not FF, every other at the record's first byte
+placed-in : {bytes : List ℕ} {r : Refusal} {offset : ℕ} → Shown bytes (step.Fault r offset) →
+    (r ≡ refusal.Leftover → FirstLeft bytes 0 offset) × ((r ≡ refusal.Leftover → ⊥) → offset ≡ 0)
+placed-in (leftover f) = (λ _. f, λ n. absurd (n refl))
+placed-in (faults n) = (λ q. absurd (n (ap numberOf q)), λ _. refl)
+
+pub fault-placed : (bytes : List ℕ) (r : Refusal) (offset : ℕ) → stepOf bytes ≡ step.Fault r offset →
+    (r ≡ refusal.Leftover → FirstLeft bytes 0 offset) × ((r ≡ refusal.Leftover → ⊥) → offset ≡ 0)
+fault-placed bytes r offset e = placed-in (subst (Shown bytes) e (shown bytes))
 
 -- ---- from the bytes to the step
 
@@ -119,11 +112,11 @@ unfolding stepOf sizedStep if_then_else_
 record-step k bytes h =
     let z = row-known k in
     let l : 4 < length bytes = omega (arith, h .fits, z .long) in
-    let w : sizeOf bytes < 65535 = omega (arith, h .size-is, z .short) in
+    let w : sizeOf bytes < erasedLength = omega (arith, h .size-is, z .short) in
     rw (
       ne-eqb (length bytes) 0 (λ q. omega arith),
       ne-eqb (length bytes) 1 (λ q. omega arith),
-      ne-eqb (sizeOf bytes) 65535 (λ q. omega arith),
+      ne-eqb (sizeOf bytes) erasedLength (λ q. omega arith),
       le-ltb (length bytes) 4 (omega arith),
       known-kind k bytes (h .name-is),
       eq-eqb (sizeOf bytes) (rowOf k .size) (h .size-is),
@@ -136,13 +129,13 @@ unfolding stepOf erasedStep
 erased-ends bytes f =
     by-test Is _ (λ _. refl) (λ z.
     let n : length bytes ≡ 0 → ⊥ = eqb-false _ _ z in
-    let b0 : getD bytes 0 0 ≡ 255 = f 0 (omega arith) in
+    let b0 : getD bytes 0 0 ≡ erased = f 0 (omega arith) in
     by-test Is _ (λ _. by-test Is _ (λ _. refl) (λ d. absurd (eqb-false _ _ d b0))) (λ o.
     let n1 : length bytes ≡ 1 → ⊥ = eqb-false _ _ o in
-    let b1 : getD bytes 1 0 ≡ 255 = f 1 (omega arith) in
+    let b1 : getD bytes 1 0 ≡ erased = f 1 (omega arith) in
     by-test Is _
     (λ _. by-test Is _ (λ g. absurd (beyond (ltb-true _ _ g) (all-erased bytes f))) (λ _. refl))
-    (λ d. absurd (eqb-false (sizeOf bytes) 65535 d (omega arith)))))
+    (λ d. absurd (eqb-false (sizeOf bytes) erasedLength d (omega arith)))))
   where
     Is : Step → Type 0
     Is x = x ≡ step.Ends

@@ -21,7 +21,7 @@ use borrow.Author.Tests.{lt-ltb, le-ltb, le-leb, lt-leb, ltb-true, ltb-false}
 use Rattle.whole.specs.Number.{Within}
 use Rattle.pair.specs.declared.Pair.{Pair}
 use Rattle.refusal.specs.Answers.{if_then_else_}
-use Rattle.record.specs.Numbers.{signed, bits}
+use Rattle.record.specs.Numbers.{signedOf, bits}
 use Rattle.refusal.proofs.Answers.{by-order}
 
 -- ---- a word as a signed number
@@ -30,20 +30,20 @@ abs-neg : (m : ℕ) → natAbs (negℤ (pos m)) ≡ m
 abs-neg zero = refl
 abs-neg (suc k) = refl
 
-abs-low : (w : ℕ) → w < 2147483648 → natAbs (signed w) ≡ w
-unfolding signed if_then_else_
+abs-low : (w : ℕ) → w < 2147483648 → natAbs (signedOf w) ≡ w
+unfolding signedOf if_then_else_
 abs-low w l = rw (lt-ltb w 2147483648 l)
 
-abs-high : (w : ℕ) → 2147483648 ≤ w → natAbs (signed w) ≡ 4294967296 - w
-unfolding signed if_then_else_
+abs-high : (w : ℕ) → 2147483648 ≤ w → natAbs (signedOf w) ≡ 4294967296 - w
+unfolding signedOf if_then_else_
 abs-high w l = rw (le-ltb w 2147483648 l) (abs-neg (4294967296 - w))
 
 module _ (w : ℕ) (small : w < 4294967296) where
-  pub word-within : (w + 20000) % 4294967296 ≤ 40000 → leb (natAbs (signed w)) 20000 ≡ true
-  word-within h = le-leb (natAbs (signed w)) 20000 (by-order 2147483648 w (λ l. rw (abs-high w l) (omega arith)) (λ l. rw (abs-low w l) (omega arith)))
+  pub word-within : (w + 20000) % 4294967296 ≤ 40000 → leb (natAbs (signedOf w)) 20000 ≡ true
+  word-within h = le-leb (natAbs (signedOf w)) 20000 (by-order 2147483648 w (λ l. rw (abs-high w l) (omega arith)) (λ l. rw (abs-low w l) (omega arith)))
 
-  pub word-outside : 40000 < (w + 20000) % 4294967296 → leb (natAbs (signed w)) 20000 ≡ false
-  word-outside h = lt-leb (natAbs (signed w)) 20000 (by-order 2147483648 w (λ l. rw (abs-high w l) (omega arith)) (λ l. rw (abs-low w l) (omega arith)))
+  pub word-outside : 40000 < (w + 20000) % 4294967296 → leb (natAbs (signedOf w)) 20000 ≡ false
+  word-outside h = lt-leb (natAbs (signedOf w)) 20000 (by-order 2147483648 w (λ l. rw (abs-high w l) (omega arith)) (λ l. rw (abs-low w l) (omega arith)))
 
 -- ---- the machine's word to a signed number
 
@@ -57,12 +57,12 @@ neg-is m l = ap (λ (z : ℤ). pos 0 -ℤ z) (toZ-pos w64 m l) ∙ +ℤ-idl (neg
 pub neg-room : (m : ℕ) → m < 9223372036854775808 → SFits w64 (pos 0 -ℤ toZ w64 m)
 neg-room m l = subst (SFits w64) (sym (neg-is m l)) (neg-fits m l)
 
-pub low-half : (w : ℕ) → w < 2147483648 → toZ w64 w ≡ signed w
-unfolding signed if_then_else_
+pub low-half : (w : ℕ) → w < 2147483648 → toZ w64 w ≡ signedOf w
+unfolding signedOf if_then_else_
 low-half w l = rw (lt-ltb w 2147483648 l) (toZ-pos w64 w (omega arith))
 
-pub high-half : (w : ℕ) → 2147483648 ≤ w → toZ w64 (ofZ w64 (pos 0 -ℤ toZ w64 (4294967296 - w))) ≡ signed w
-unfolding signed if_then_else_
+pub high-half : (w : ℕ) → 2147483648 ≤ w → toZ w64 (ofZ w64 (pos 0 -ℤ toZ w64 (4294967296 - w))) ≡ signedOf w
+unfolding signedOf if_then_else_
 high-half w l =
     rw (le-ltb w 2147483648 l) (toZ-ofZ w64 _ (neg-room (4294967296 - w) (omega arith)) ∙ neg-is (4294967296 - w) (omega arith))
 
@@ -89,8 +89,8 @@ pub bits-small : (x : ℤ) → Within 20000 x → bits x < 4294967296
 bits-small (pos n) h = omega arith
 bits-small (negsuc n) h = omega arith
 
-pub signed-bits : (x : ℤ) → Within 20000 x → signed (bits x) ≡ x
-unfolding signed if_then_else_
+pub signed-bits : (x : ℤ) → Within 20000 x → signedOf (bits x) ≡ x
+unfolding signedOf if_then_else_
 signed-bits (pos n) h = rw (lt-ltb n 2147483648 (omega arith))
 signed-bits (negsuc n) h =
     let e : 4294967296 - (4294967296 - suc n) ≡ suc n = omega arith in

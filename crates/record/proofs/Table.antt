@@ -22,7 +22,7 @@ use Rattle.record.specs.declared.kinds.Named.the-variants as named-as
 use Rattle.record.specs.declared.kinds.Row.{Row}
 use Rattle.record.specs.Numbers.{written}
 use Rattle.record.specs.Kinds.{rowOf, kinds, words, formed}
-use Rattle.record.specs.Steps.{named, kindIn}
+use Rattle.record.specs.Records.{named, kindIn}
 
 -- the bytes of a record's head, as far as its name matters
 abbrev head : ℕ → ℕ → List ℕ

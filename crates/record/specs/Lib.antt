@@ -1,5 +1,5 @@
 -- The definitions that the contracts cite, from a number's bytes up to one step of reading a sheet.
 pub mod Numbers
 pub mod Kinds
-pub mod Steps
+pub mod Records
 pub mod Promise

@@ -1,7 +1,7 @@
 -- Numbers in a sheet's bytes, the lowest byte first.
 --   halfAt       two bytes as a number.      sizeOf   the length that a record says it has
 --   wordAt       four bytes as a number below 2^32
---   signed       such a number read as a signed one
+--   signedOf     such a number read as a signed one
 --   coordinates  so many signed numbers, from a place on
 --   paired       numbers taken two by two: x then y
 --   bits         a signed number as one below 2^32
@@ -27,12 +27,12 @@ abbrev pub wordAt : List ℕ → ℕ → ℕ
 wordAt bytes at = getD bytes at 0 + 256 * getD bytes (at + 1) 0 + 65536 * getD bytes (at + 2) 0 + 16777216 * getD bytes (at + 3) 0
 
 -- w below 2^31, and w − 2^32 from there on
-unfoldable pub signed : ℕ → ℤ
-signed w = if ltb w 2147483648 then pos w else negℤ (pos (4294967296 - w))
+unfoldable pub signedOf : ℕ → ℤ
+signedOf w = if ltb w 2147483648 then pos w else negℤ (pos (4294967296 - w))
 
 unfoldable pub coordinates : ℕ → List ℕ → ℕ → List ℤ
 coordinates zero bytes at = []
-coordinates (suc n) bytes at = signed (wordAt bytes at) ∷ coordinates n bytes (at + 4)
+coordinates (suc n) bytes at = signedOf (wordAt bytes at) ∷ coordinates n bytes (at + 4)
 
 abbrev pub paired : List ℤ → List Pair
 paired [] = []

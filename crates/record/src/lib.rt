@@ -12,6 +12,8 @@ pub use points::cubic_numbers;
 pub use points::held_curve;
 pub use points::kind_of;
 pub use points::quintic_numbers;
+pub use steps::ERASED;
+pub use steps::LONGEST;
 pub use steps::Step;
 pub use steps::step_of;
 pub use writes::Put;

@@ -3,7 +3,7 @@ ghost use mathlib.Core.Path.{_≡_};
 ghost use Prim.Native.Nat.{_+_, _≤_, _<_};
 ghost use lib.ListN.{length};
 ghost use Rattle.whole.specs.Number.{Within};
-ghost use Rattle.record.specs.Numbers.{halfAt, wordAt, signed as signedOf, bits as bitsOf, wordBytes, written};
+ghost use Rattle.record.specs.Numbers.{halfAt, wordAt, signedOf, bits as bitsOf, wordBytes, written};
 
 fn wide(x: u8) -> u64
     ensures { λ r. ⌜ (r ≡ x) × (r < 256) ⌝ }

@@ -6,7 +6,7 @@ ghost use Rattle.pair.specs.Pairs.{pair};
 ghost use Rattle.curve.specs.declared.Curve.the-variants as curves;
 ghost use Rattle.curve.specs.Curves.{pointsOf};
 ghost use Rattle.record.specs.declared.kinds.Kind.the-variants as kinds;
-ghost use Rattle.record.specs.Numbers.{wordAt, signed as signedOf};
+ghost use Rattle.record.specs.Numbers.{wordAt, signedOf};
 ghost use Rattle.record.specs.Kinds.{rowOf, kindOf, numbersOf, pointsIn};
 ghost use Rattle.record.specs.Promise.{IsHeld};
 use crate::kinds::Kind;
@@ -23,7 +23,7 @@ use pair::Pair;
 // A curve and how many bytes its record has, or that the bytes begin with no curve's record.
 pub enum Held {
     Curve { curve: Curve, size: usize },
-    Nothing,
+    None,
 }
 
 pub fn kind_of(curve: Curve) -> Kind
@@ -125,15 +125,15 @@ pub fn held_curve(rest: &[u8]) -> Held
     ensures { λ r. ⌜ IsHeld (now (rest .entry)) r ⌝ }
 {
     if rest.len() < 4 {
-        return Held::Nothing;
+        return Held::None;
     }
     let Named::Kind(kind) = kind_in(rest) else {
-        return Held::Nothing;
+        return Held::None;
     };
     let row = row_of(kind);
     let size = row.size;
     if rest.len() < size {
-        return Held::Nothing;
+        return Held::None;
     }
     let curve = curve_in(&rest[..size], kind);
     Held::Curve { curve, size }

@@ -4,7 +4,7 @@ ghost use Prim.Native.Nat.{_+_, _*_, _≤_};
 ghost use lib.ListN.{length};
 ghost use Rattle.record.specs.Numbers.{coordinates};
 ghost use Rattle.record.specs.Kinds.{kinds};
-ghost use Rattle.record.specs.Steps.{erasedBytes, erasedStep, named, kindIn, allWithin, sizedStep, kindStep, stepOf};
+ghost use Rattle.record.specs.Records.{erasedBytes, erasedStep, named, kindIn, allWithin, sizedStep, kindStep, stepOf};
 use crate::kinds::Kind;
 use crate::kinds::Named;
 use crate::kinds::row_of;
@@ -12,6 +12,15 @@ use crate::kinds::words;
 use crate::numbers::half_at;
 use crate::numbers::word_at;
 use refusal::Refusal;
+
+// A sheet has no more bytes than this.
+pub const LONGEST: usize = 4096;
+
+// Every byte of what is erased.
+pub const ERASED: u8 = 255;
+
+// A record's length where its place is erased: two such bytes.
+const ERASED_LENGTH: u64 = 65535;
 
 // What stands at a record's place: the end of the sheet, a fault some bytes on, or a record of a kind.
 pub enum Step {
@@ -26,7 +35,7 @@ fn erased_bytes(rest: &[u8]) -> usize
 {
     let mut i: usize = 0;
     while i < rest.len() {
-        if rest[i] != 255 {
+        if rest[i] != ERASED {
             return i;
         }
         i += 1;
@@ -93,13 +102,12 @@ fn record_step(rest: &[u8], kind: Kind) -> Step
     ensures { λ r. ⌜ r ≡ sizedStep kind (now (rest .entry)) ⌝ }
 {
     let size = row_of(kind).size;
-    if half_at(rest, 0) != size as u64 {
-        return Step::Fault(Refusal::Length, 0);
-    }
-    if rest.len() < size {
-        return Step::Fault(Refusal::Cut, 0);
-    }
-    if all_within(rest, words(kind)) {
+    let said = half_at(rest, 0);
+    if said != size as u64 {
+        Step::Fault(Refusal::Length, 0)
+    } else if rest.len() < size {
+        Step::Fault(Refusal::Cut, 0)
+    } else if all_within(rest, words(kind)) {
         Step::Record(kind)
     } else {
         Step::Fault(Refusal::Range, 0)
@@ -137,12 +145,12 @@ pub fn step_of(rest: &[u8]) -> Step
         return Step::Ends;
     }
     if left == 1 {
-        if rest[0] == 255 {
+        if rest[0] == ERASED {
             return Step::Ends;
         }
         return Step::Fault(Refusal::Cut, 0);
     }
-    if half_at(rest, 0) == 65535 {
+    if half_at(rest, 0) == ERASED_LENGTH {
         return erased_step(rest);
     }
     if left < 4 {

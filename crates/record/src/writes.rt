@@ -2,14 +2,14 @@
 ghost use mathlib.Core.Path.{_≡_};
 ghost use mathlib.Core.Bool.{true};
 ghost use mathlib.Core.List.{[], _++_};
-ghost use Prim.Native.Nat.{_+_, _*_};
+ghost use Prim.Native.Nat.{_+_, _-_, _*_};
 ghost use lib.Dec.{leb};
 ghost use lib.IntN.{natAbs};
 ghost use lib.ListN.{length, take};
 ghost use Rattle.record.specs.Numbers.{encoded, written};
 ghost use Rattle.curve.specs.Curves.{pointsOf};
 ghost use Rattle.record.specs.Kinds.{rowOf, kindOf, numbersOf, formed};
-ghost use Rattle.record.specs.Steps.{allWithin};
+ghost use Rattle.record.specs.Records.{allWithin};
 ghost use Rattle.record.specs.Promise.{PutsAt};
 use crate::kinds::Kind;
 use crate::kinds::row_of;
@@ -88,19 +88,28 @@ fn put_record(bytes: &mut [u8], kind: Kind, xs: &[i64])
     put_numbers(bytes, xs);
 }
 
+// How many bytes stand from a place on.
+fn left_at(bytes: &[u8], at: usize) -> usize
+    ensures { λ r. ⌜ r ≡ length (now (bytes .entry)) - at ⌝ }
+{
+    if bytes.len() < at {
+        return 0;
+    }
+    bytes.len() - at
+}
+
 // Writes a record of numbers at a place. All tests come before the first byte is written.
 fn put_at(bytes: &mut [u8], at: usize, kind: Kind, xs: &[i64]) -> Put
     requires { ⌜ rowOf kind .size ≡ 4 + 4 * length (now xs) ⌝ }
     ensures { λ r. ⌜ PutsAt (now (bytes .entry)) at kind (now (xs .entry)) (now (bytes .exit)) r ⌝ }
 {
-    if !numbers_within(xs) {
+    let within = numbers_within(xs);
+    let size = row_of(kind).size;
+    let left = left_at(bytes, at);
+    if !within {
         return Put::Refused(Refusal::Range);
     }
-    let size = row_of(kind).size;
-    if bytes.len() < size {
-        return Put::Refused(Refusal::Room);
-    }
-    if bytes.len() - size < at {
+    if left < size {
         return Put::Refused(Refusal::Room);
     }
     put_record(&mut bytes[at..at + size], kind, xs);

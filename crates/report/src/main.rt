@@ -1,9 +1,11 @@
 // Reads a parameter sheet from the standard input and writes its report to the standard output.
-ghost use Prim.Native.Nat.{_≤_};
+ghost use Prim.Native.Nat.{_≤_, _<_};
 ghost use lib.ListN.{length, take};
+ghost use Rattle.record.specs.Records.{longest};
 ghost use Rattle.report_text.specs.Promise.{Report};
 use libc::STDIN_FILENO;
 use libc::STDOUT_FILENO;
+use record::LONGEST;
 use report_text::write_report;
 use text::TextAnswer;
 
@@ -20,7 +22,7 @@ fn report_of(sheet: &[u8], text: &mut [u8]) -> usize
 
 // A sheet that is too long shows by its first byte too many, so there is room for that byte.
 fn report_input(sheet: &mut [u8], text: &mut [u8])
-    requires { ⌜ (4097 ≤ length (now sheet)) × (5321 ≤ length (now text)) ⌝ }
+    requires { ⌜ (longest < length (now sheet)) × (5321 ≤ length (now text)) ⌝ }
 {
     let read = io::read_full(STDIN_FILENO, sheet);
     let end = report_of(&sheet[..read], text);
@@ -28,7 +30,7 @@ fn report_input(sheet: &mut [u8], text: &mut [u8])
 }
 
 fn main() {
-    let mut sheet = [0u8; 4097];
+    let mut sheet = [0u8; LONGEST + 1];
     let mut text = [0u8; 5321];
     report_input(&mut sheet, &mut text);
 }

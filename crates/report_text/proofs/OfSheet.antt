@@ -15,6 +15,7 @@ use Rattle.curve.specs.declared.Curve.{Curve}
 use Rattle.curve.specs.Curves.{pointsOf, InRange}
 use Rattle.record.specs.declared.points.Held.the-variants as held
 use Rattle.record.specs.Promise.{IsHeld}
+use Rattle.record.specs.Records.{longest}
 use Rattle.sheet.specs.declared.Reading.the-variants as reading
 use Rattle.sheet.specs.declared.Location.the-variants as location
 use Rattle.sheet.specs.Survey.{Entry, outcome, chosen}
@@ -37,10 +38,10 @@ module _ (s : List ℕ) (count k next : ℕ) (l : k < count) (a : Ahead s count 
   pub ahead-fits : next + a l .0 ≤ length s
   ahead-fits = fits (stands s (suc k) next (a l .0) (a l .1))
 
-  pub ahead-near : length s ≤ 4096
+  pub ahead-near : length s ≤ longest
   ahead-near = choice (stands s (suc k) next (a l .0) (a l .1)) .short
 
-  pub ahead-held : IsHeld (drop next s) held.Nothing → ⊥
+  pub ahead-held : IsHeld (drop next s) held.None → ⊥
   ahead-held = held-nothing (stands s (suc k) next (a l .0) (a l .1))
 
   pub passed : with-given countOf (outcome s) ≡ given count → (c : Curve) (size : ℕ) → IsHeld (drop next s) (held.Curve c size)

@@ -1,5 +1,4 @@
 -- How long a report can be.
---   content-small, length-small   c has at most 15 digits, and A at most 10
 --   line-short                    a line of a curve has at most 47 bytes
 --   report-short                  a report has at most 5,321 bytes
 --   room-enough                   so an area of that length is not refused, and
@@ -7,7 +6,6 @@
 use mathlib.Core.Path.{_≡_, refl, ap, subst}
 use mathlib.Core.List.{List, _++_}
 use Prim.Native.Nat.{ℕ, zero, suc, _*_, _^_, _≤_, _<_}
-use native.Mathlib.Nat.{mul-le-mul, mul-le-mul-left}
 use native.Mathlib.Omega.{arith}
 use lib.IntN.{ℤ, pos, negsuc, natAbs}
 use lib.ListN.{length, length-append}
@@ -16,25 +14,15 @@ use Rattle.refusal.specs.declared.Refusal.{Refusal}
 use Rattle.refusal.specs.Table.{numberOf}
 use Rattle.refusal.specs.Answers.{Answer, refused, given, with-given}
 use Rattle.refusal.proofs.Laws.{number-small}
-use Rattle.whole.specs.Poly.{at}
-use Rattle.whole.specs.Number.{wholes, Within}
-use Rattle.whole.proofs.Wholes.{readℤ, read-pos}
-use Rattle.whole.proofs.Linear.{linear, abs-parts, one-part}
-use Rattle.whole.proofs.Bound.{done, _▸_, bounds, within}
-use Rattle.root.specs.declared.Quartic.{Quartic}
-use Rattle.root.specs.Roots.{quartic, Small}
-use Rattle.root.specs.Search.{Each}
+use Rattle.whole.proofs.Linear.{linear}
 use Rattle.curve.specs.declared.Curve.{Curve}
 use Rattle.curve.specs.declared.Curve.the-variants.{Cubic, Quintic}
-use Rattle.verdict.specs.declared.Square.{Square}
 use Rattle.verdict.specs.declared.Verdict.{Verdict}
 use Rattle.verdict.specs.declared.Verdict.the-variants as verdict
-use Rattle.curve.specs.Curves.{pointsOf, InRange, legPolynomial}
-use Rattle.verdict.specs.Verdicts.{SquareOf}
+use Rattle.curve.specs.Curves.{pointsOf, InRange}
 use Rattle.verdict.specs.Promise.{Recognised}
-use Rattle.curve.proofs.LegPolynomial.{pointsOf-length}
-use Rattle.verdict.proofs.RootSizes.{root-size}
 use Rattle.measure.specs.Lengths.{lengthA, lengthB}
+use Rattle.measure.proofs.LengthSizes.{content-small, length-nonneg, length-small}
 use Rattle.sheet.specs.Survey.{Entry, outcome}
 use Rattle.sheet.specs.Promise.{countOf}
 use Rattle.sheet.proofs.Surveys.{sound-of}
@@ -45,7 +33,6 @@ use Rattle.text.proofs.Decimals.{decimal-few}
 use Rattle.text.proofs.Held.{asked-written, room-enough as enough}
 use Rattle.report_text.specs.Texts.{firstLine, kindText, verdictText}
 use Rattle.report_text.specs.Promise.{Line, Lines, ReportOf, Report, Reported}
-use Rattle.report_text.proofs.Lengths.{root-small, length-nonneg}
 use Rattle.report_text.proofs.OfSheet.{read-in-range}
 
 -- ---- the numbers
@@ -53,26 +40,6 @@ use Rattle.report_text.proofs.OfSheet.{read-in-range}
 signed-few : (k : ℕ) (x : ℤ) → pos 0 ≤ℤ x → natAbs x < 10 ^ suc k → length (signed x) ≤ suc k
 signed-few k (pos n) h l = decimal-few k n l
 signed-few k (negsuc n) h l = absurd (omega linear)
-
-pub content-small : (curve : Curve) (s : Square) → InRange (pointsOf curve) → SquareOf (legPolynomial (pointsOf curve)) s → natAbs (s .c) < 10 ^ 15
-content-small curve s range h =
-    let q = at wholes (quartic (s .q)) (h .lead .power) in
-    let some : 1 ≤ natAbs q = omega (linear, h .lead .positive, abs-parts q, one-part q) in
-    omega (
-      arith,
-      root-size (pointsOf curve) range (pointsOf-length curve) (s .c) (quartic (s .q)) (h .positive) (h .squared) (h .lead .power),
-      mul-le-mul-left (natAbs (s .c)) (mul-le-mul some some),
-    )
-
-length-within : (curve : Curve) (q : Quartic) → Each wholes Small (quartic q) → Within 9999999999 (lengthA curve q)
-length-within (Cubic c) q h =
-    bounds (h 0 ▸ h 1 ▸ h 2 ▸ done) (λ ρ e k. simp (e 0, e 1, e 2, readℤ, read-pos ρ 2, read-pos ρ 3, read-pos ρ 6) (within k _ refl))
-length-within (Quintic c) q h =
-    bounds (h 0 ▸ h 1 ▸ h 2 ▸ h 3 ▸ h 4 ▸ done)
-    (λ ρ e k. simp (e 0, e 1, e 2, e 3, e 4, readℤ, read-pos ρ 12, read-pos ρ 15, read-pos ρ 20, read-pos ρ 30, read-pos ρ 60) (within k _ refl))
-
-pub length-small : (curve : Curve) (q : Quartic) → Each wholes Small (quartic q) → natAbs (lengthA curve q) < 10 ^ 10
-length-small curve q h = omega (arith, length-within curve q h .size)
 
 -- ---- a line
 
@@ -94,7 +61,7 @@ verdict-short curve (verdict.Pre p) r h =
     omega (
       arith,
       signed-few 14 (p .square .c) (omega (linear, k .square-of .positive)) (content-small curve (p .square) r (k .square-of)),
-      signed-few 9 a (length-nonneg curve p k) (length-small curve (p .square .q) (root-small curve p r k)),
+      signed-few 9 a (length-nonneg p curve k) (omega (arith, length-small p curve r k)),
       denominator-short curve,
       length-append (front ++ middle) (labelled "/" (lengthB curve)),
       length-append front middle,

@@ -8,7 +8,8 @@ use mathlib.Core.Logic.{inl, inr}
 use Prim.Native.Nat.{ℕ, _+_, _<_}
 use native.Mathlib.Decide.{decLt}
 use native.Mathlib.Omega.{arith}
-use Rattle.whole.specs.Poly.{Coefficients, at, Same, square}
+use Rattle.whole.specs.Coefficients.{Coefficients, at}
+use Rattle.poly.specs.Polynomials.{Same, square}
 use Rattle.whole.proofs.Ring.{Ring}
 use Rattle.poly.specs.Terms.{Top}
 use Rattle.poly.proofs.Domain.{Domain, UpToSign}

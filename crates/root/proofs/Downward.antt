@@ -16,19 +16,21 @@ use native.Mathlib.Omega.{arith}
 use lib.Dec.{lit≤, lit<}
 use lib.IntN.{ℤ, pos, _+ℤ_, _-ℤ_, _*ℤ_, +ℤ-idr}
 use Rattle.whole.specs.Number.{wholes}
-use Rattle.whole.specs.Poly.{at, Same, square}
+use Rattle.whole.specs.Coefficients.{at}
+use Rattle.poly.specs.Polynomials.{Same, square}
 use Rattle.whole.proofs.Linear.{linear, minus-parts}
 use Rattle.whole.proofs.Wholes.{wholes-ring, *ℤ-cancel}
 use Rattle.poly.specs.Terms.{Above, RootAt, twice}
 use Rattle.poly.proofs.Roots.{root-1, root-2, root-3, root-4}
 use Rattle.poly.proofs.Top.{length-above}
 use Rattle.poly.proofs.Wholes.{twice-whole-some}
-use Rattle.root.specs.declared.Nine.{Nine}
+use Rattle.root.specs.declared.Octic.{Octic}
 use Rattle.root.specs.declared.Quartic.{Quartic}
 use Rattle.root.specs.declared.Coefficient.{Coefficient}
 use Rattle.root.specs.declared.Coefficient.the-variants.{Whole, Fraction, TooLarge}
 use Rattle.root.specs.Search.{Each, SameFrom, UpperRoot}
-use Rattle.root.specs.Roots.{nine, quartic, Small, IsCoefficient}
+use Rattle.root.specs.Promise.{octic, quartic, Small}
+use Rattle.root.specs.Steps.{IsCoefficient}
 use Rattle.root.proofs.Squared.{square-is}
 
 abbrev pub rest : List ℤ → ℕ → ℤ
@@ -123,7 +125,7 @@ quartic-above q = length-above wholes (quartic q) 4 (lit≤ tt)
 less-same : (a b r : ℤ) → a -ℤ r ≡ b -ℤ r → a ≡ b
 less-same a b r e = omega (linear, minus-parts a r, minus-parts b r)
 
-module _ (m : Nine) (q : Quartic) (lead : q .q4 *ℤ q .q4 ≡ m .m8) (lead-small : Small (q .q4)) (b : Begun (nine m) (q .q4) (quartic q) 0) where
+module _ (m : Octic) (q : Quartic) (lead : q .q4 *ℤ q .q4 ≡ m .m8) (lead-small : Small (q .q4)) (b : Begun (octic m) (q .q4) (quartic q) 0) where
   small : Each wholes Small (quartic q)
   small zero = b .answer 0 (lit≤ tt) (lit< tt) .1
   small (suc zero) = b .answer 1 (lit≤ tt) (lit< tt) .1
@@ -132,10 +134,10 @@ module _ (m : Nine) (q : Quartic) (lead : q .q4 *ℤ q .q4 ≡ m .m8) (lead-smal
   small (suc (suc (suc (suc zero)))) = lead-small
   small (suc (suc (suc (suc (suc k))))) = record { size = lit≤ tt }
 
-  power : (k : ℕ) → k < 4 → at wholes (square wholes (quartic q)) (k + 4) ≡ at wholes (nine m) (k + 4)
+  power : (k : ℕ) → k < 4 → at wholes (square wholes (quartic q)) (k + 4) ≡ at wholes (octic m) (k + 4)
   power k l = less-same _ _ (rest (quartic q) k) (sym (downward (quartic q) (quartic-above q) k l) ∙ b .answer k (omega arith) l .0)
 
-  squared : SameFrom wholes 4 (square wholes (quartic q)) (nine m)
+  squared : SameFrom wholes 4 (square wholes (quartic q)) (octic m)
   squared zero l = absurd (omega arith)
   squared (suc zero) l = absurd (omega arith)
   squared (suc (suc zero)) l = absurd (omega arith)
@@ -147,5 +149,5 @@ module _ (m : Nine) (q : Quartic) (lead : q .q4 *ℤ q .q4 ≡ m .m8) (lead-smal
   squared (suc (suc (suc (suc (suc (suc (suc (suc zero)))))))) l = square-is q 8 ∙ lead
   squared (suc (suc (suc (suc (suc (suc (suc (suc (suc k))))))))) l = square-is q (suc (suc (suc (suc (suc (suc (suc (suc (suc k)))))))))
 
-  pub search-finds : UpperRoot wholes Small (nine m) 4 (q .q4) (quartic q)
+  pub search-finds : UpperRoot wholes Small (octic m) 4 (q .q4) (quartic q)
   search-finds = record { small = small; above = quartic-above q; lead = refl; squared = squared }

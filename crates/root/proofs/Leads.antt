@@ -6,7 +6,8 @@
 use mathlib.Core.Path.{_≡_, sym, _∙_, subst}
 use mathlib.Core.List.{List}
 use lib.IntN.{ℤ}
-use Rattle.whole.specs.Poly.{Coefficients, at, Same}
+use Rattle.whole.specs.Coefficients.{Coefficients, at}
+use Rattle.poly.specs.Polynomials.{Same}
 use Rattle.whole.proofs.Ring.{Ring}
 use Rattle.whole.proofs.Linear.{linear, negative-parts}
 use Rattle.whole.proofs.Wholes.{wholes-ring}
@@ -15,7 +16,7 @@ use Rattle.poly.specs.Terms.{Top}
 use Rattle.poly.proofs.Domain.{UpToSign}
 use Rattle.poly.proofs.Top.{up-to-sign-same}
 use Rattle.root.specs.Search.{Lead}
-use Rattle.root.specs.Roots.{LeadPositive}
+use Rattle.root.specs.Promise.{LeadPositive}
 
 module _ {A : Type 0} {C : Coefficients A} {Positive : A → Type 0} where
   pub lead-same : {p q : List A} → Same C p q → Lead C Positive p → Lead C Positive q

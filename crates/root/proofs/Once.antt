@@ -10,21 +10,23 @@ use mathlib.Core.List.{List}
 use mathlib.Core.Logic.{_≢_}
 use lib.IntN.{ℤ, pos}
 use Rattle.whole.specs.Number.{wholes}
-use Rattle.whole.specs.Poly.{Coefficients, Same}
+use Rattle.whole.specs.Coefficients.{Coefficients}
+use Rattle.poly.specs.Polynomials.{Same}
 use Rattle.whole.proofs.Ring.{Ring}
 use Rattle.whole.proofs.Wholes.{wholes-ring}
 use Rattle.poly.proofs.Domain.{Domain, squares-agree, UpToSign}
 use Rattle.poly.proofs.Wholes.{wholes-domain}
-use Rattle.root.specs.declared.Nine.{Nine}
+use Rattle.root.specs.declared.Octic.{Octic}
 use Rattle.root.specs.declared.Quartic.{Quartic}
 use Rattle.root.specs.declared.Coefficient.{Coefficient}
 use Rattle.root.specs.declared.Coefficient.the-variants.{Whole, Fraction, TooLarge}
 use Rattle.root.specs.declared.Search.{Search}
-use Rattle.root.specs.declared.Search.the-variants.{Candidate, Ended}
+use Rattle.root.specs.declared.Search.the-variants.{Upper, None}
 use Rattle.root.specs.declared.WholeRoot.{WholeRoot}
-use Rattle.root.specs.declared.WholeRoot.the-variants.{Root, NoRoot}
+use Rattle.root.specs.declared.WholeRoot.the-variants.{Root, None}
 use Rattle.root.specs.Search.{Lead, SmallRoot}
-use Rattle.root.specs.Roots.{quartic, IsSquare, IsCoefficient, IsSearch, IsWholeRoot}
+use Rattle.root.specs.Promise.{quartic, IsSquare, IsWholeRoot}
+use Rattle.root.specs.Steps.{IsCoefficient, IsSearch}
 use Rattle.root.proofs.Squared.{square-only}
 use Rattle.root.proofs.Downward.{whole-coefficient, upper-root-once}
 use Rattle.root.proofs.Leads.{positive-lead-once}
@@ -34,7 +36,7 @@ module _ {A : Type 0} {C : Coefficients A} (R : Ring C) (D : Domain C) {Positive
   pub small-root-once : {Small : A → Type 0} (M p q : List A) → SmallRoot C Positive Small M p → SmallRoot C Positive Small M q → Same C p q
   small-root-once M p q h k = once p q (h .lead) (k .lead) (squares-agree R D p q (λ i. h .squared i ∙ sym (k .squared i)))
 
-pub square-once : (q : Quartic) (a b : Nine) → IsSquare q a → IsSquare q b → a ≡ b
+pub square-once : (q : Quartic) (a b : Octic) → IsSquare q a → IsSquare q b → a ≡ b
 square-once q a b h k = square-only q a h ∙ sym (square-only q b k)
 
 pub quartic-same : (p q : Quartic) → Same wholes (quartic p) (quartic q) → p ≡ q
@@ -52,15 +54,15 @@ coefficient-once n t some TooLarge Fraction h k = absurd (k (record { factor = h
 coefficient-once n t some TooLarge TooLarge h k = refl
 
 pub search-once : (M : List ℤ) (s : ℤ) → s ≢ pos 0 → (r t : Search) → IsSearch M s r → IsSearch M s t → r ≡ t
-search-once M s some (Candidate p) (Candidate q) h k = ap Candidate (quartic-same p q (upper-root-once M s some h k))
-search-once M s some (Candidate p) Ended h k = absurd (k (quartic p) h)
-search-once M s some Ended (Candidate q) h k = absurd (h (quartic q) k)
-search-once M s some Ended Ended h k = refl
+search-once M s some (Upper p) (Upper q) h k = ap Upper (quartic-same p q (upper-root-once M s some h k))
+search-once M s some (Upper p) None h k = absurd (k (quartic p) h)
+search-once M s some None (Upper q) h k = absurd (h (quartic q) k)
+search-once M s some None None h k = refl
 
 pub whole-root-once : (M : List ℤ) (r s : WholeRoot) → IsWholeRoot M r → IsWholeRoot M s → r ≡ s
 whole-root-once M (Root p) (Root q) h k =
     ap Root (quartic-same p q
     (small-root-once wholes-ring wholes-domain positive-lead-once M (quartic p) (quartic q) h k))
-whole-root-once M (Root p) NoRoot h k = absurd (k (quartic p) (h .small) (h .squared))
-whole-root-once M NoRoot (Root q) h k = absurd (h (quartic q) (k .small) (k .squared))
-whole-root-once M NoRoot NoRoot h k = refl
+whole-root-once M (Root p) None h k = absurd (k (quartic p) (h .small) (h .squared))
+whole-root-once M None (Root q) h k = absurd (h (quartic q) (k .small) (k .squared))
+whole-root-once M None None h k = refl

@@ -9,7 +9,8 @@ use mathlib.Core.List.{List, _∷_}
 use Prim.Native.Nat.{ℕ, zero, suc, _+_}
 use native.Mathlib.Numerals.{add-two}
 use native.Mathlib.Omega.{arith}
-use Rattle.whole.specs.Poly.{Coefficients, at, Same, square}
+use Rattle.whole.specs.Coefficients.{Coefficients, at}
+use Rattle.poly.specs.Polynomials.{Same, square}
 use Rattle.whole.proofs.Ring.{Ring}
 use Rattle.poly.specs.Terms.{Above, Top}
 use Rattle.poly.proofs.Domain.{Domain}

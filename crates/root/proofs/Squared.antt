@@ -6,14 +6,14 @@ use mathlib.Core.Path.{_≡_, refl, sym, _∙_}
 use mathlib.Core.List.{[], _∷_}
 use Prim.Native.Nat.{zero, suc}
 use lib.IntN.{pos, _+ℤ_, _*ℤ_}
-use Rattle.whole.specs.Poly.{Same, sum, scaled, product}
+use Rattle.poly.specs.Polynomials.{Same, sum, scaled, product}
 use Rattle.whole.specs.Number.{wholes}
 use Rattle.whole.proofs.Wholes.{readℤ, read-pos, atomsℤ, ringℤ}
-use Rattle.root.specs.declared.Nine.{Nine}
+use Rattle.root.specs.declared.Octic.{Octic}
 use Rattle.root.specs.declared.Quartic.{Quartic}
-use Rattle.root.specs.Roots.{nine, IsSquare}
+use Rattle.root.specs.Promise.{octic, IsSquare}
 
-abbrev pub squareOf : Quartic → Nine
+abbrev pub squareOf : Quartic → Octic
 squareOf q = record {
   m0 = q .q0 *ℤ q .q0;
   m1 = pos 2 *ℤ q .q0 *ℤ q .q1;
@@ -45,8 +45,8 @@ square-is q (suc (suc (suc (suc (suc (suc (suc (suc zero)))))))) = atomsℤ (q .
 square-is q (suc (suc (suc (suc (suc (suc (suc (suc (suc k))))))))) = refl
 
 -- nine numbers are those of their polynomial
-nine-same : (a b : Nine) → Same wholes (nine a) (nine b) → a ≡ b
+nine-same : (a b : Octic) → Same wholes (octic a) (octic b) → a ≡ b
 nine-same a b h i = record { m0 = h 0 i; m1 = h 1 i; m2 = h 2 i; m3 = h 3 i; m4 = h 4 i; m5 = h 5 i; m6 = h 6 i; m7 = h 7 i; m8 = h 8 i }
 
-pub square-only : (q : Quartic) (m : Nine) → IsSquare q m → m ≡ squareOf q
+pub square-only : (q : Quartic) (m : Octic) → IsSquare q m → m ≡ squareOf q
 square-only q m h = nine-same m (squareOf q) (λ k. sym (h k) ∙ square-is q k)

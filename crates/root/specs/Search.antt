@@ -9,7 +9,8 @@
 use mathlib.Core.Path.{_≡_}
 use mathlib.Core.List.{List}
 use Prim.Native.Nat.{ℕ, _≤_, _<_}
-use Rattle.whole.specs.Poly.{Coefficients, at, Same, square}
+use Rattle.whole.specs.Coefficients.{Coefficients, at}
+use Rattle.poly.specs.Polynomials.{Same, square}
 use Rattle.poly.specs.Terms.{Above}
 
 module _ {A : Type 0} (C : Coefficients A) where

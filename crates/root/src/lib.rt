@@ -11,14 +11,19 @@ ghost use mathlib.Core.Logic.{_≢_};
 ghost use Prim.Native.Nat.{_+_, _≤_};
 ghost use lib.IntN.{pos, _*ℤ_};
 ghost use Rattle.whole.specs.Number.{wholes, Tells};
-ghost use Rattle.whole.specs.Poly.{at, Same};
-ghost use Rattle.whole.specs.Quotients.{Divisible};
+ghost use Rattle.whole.specs.Coefficients.{at};
+ghost use Rattle.poly.specs.Polynomials.{Same};
+ghost use Rattle.whole.specs.Promise.{Divisible};
 ghost use Rattle.poly.specs.Terms.{Above, Top};
 ghost use Rattle.root.specs.Search.{Each, SameBelow};
-ghost use Rattle.root.specs.Roots.{nine, quartic, Sized, Small, IsSquare, IsCoefficient, IsSearch, IsWholeRoot};
+ghost use Rattle.root.specs.Promise.{octic, quartic, Sized, Small, IsSquare, IsWholeRoot};
+ghost use Rattle.root.specs.Steps.{IsCoefficient, IsSearch};
+
+// How large a coefficient of a root may be.
+const ROOT_SIZE: u64 = 20000000;
 
 // m0 + m1 t + .. + m8 t^8
-pub struct Nine {
+pub struct Octic {
     pub m0: i64,
     pub m1: i64,
     pub m2: i64,
@@ -41,10 +46,10 @@ pub struct Quartic {
 
 pub enum WholeRoot {
     Root(Quartic),
-    NoRoot,
+    None,
 }
 
-// A coefficient of a root: a whole number of at most 20,000,000 in size, or why it is none.
+// A coefficient of a root: a small whole number, or why it is none.
 pub enum Coefficient {
     Whole(i64),
     Fraction,
@@ -53,12 +58,12 @@ pub enum Coefficient {
 
 // The only polynomial that can be a root, or that a coefficient ended the search.
 enum Search {
-    Candidate(Quartic),
-    Ended,
+    Upper(Quartic),
+    None,
 }
 
 // The square of q.
-pub fn square(q: Quartic) -> Nine
+pub fn square(q: Quartic) -> Octic
     requires { ⌜ Each wholes Small (quartic q) ⌝ }
     ensures { λ m. ⌜ IsSquare q m ⌝ }
 {
@@ -70,7 +75,7 @@ pub fn square(q: Quartic) -> Nine
     let d0 = 2 * q0;
     let d1 = 2 * q1;
     let d2 = 2 * q2;
-    Nine {
+    Octic {
         m0: q0 * q0,
         m1: d0 * q1,
         m2: d0 * q2 + q1 * q1,
@@ -84,8 +89,8 @@ pub fn square(q: Quartic) -> Nine
 }
 
 // Whether a and b agree below the fourth power.
-fn same_below(a: Nine, b: Nine) -> bool
-    ensures { λ r. ⌜ Tells (SameBelow wholes 4 (nine a) (nine b)) r ⌝ }
+fn same_below(a: Octic, b: Octic) -> bool
+    ensures { λ r. ⌜ Tells (SameBelow wholes 4 (octic a) (octic b)) r ⌝ }
 {
     if a.m3 != b.m3 {
         return false;
@@ -110,7 +115,7 @@ fn coefficient_of(n: i64, t: i64) -> Coefficient
     let Exact::Whole(x) = quotient(n, t) else {
         return Coefficient::Fraction;
     };
-    if 20000000 < size(x) {
+    if ROOT_SIZE < size(x) {
         Coefficient::TooLarge
     } else {
         Coefficient::Whole(x)
@@ -118,9 +123,9 @@ fn coefficient_of(n: i64, t: i64) -> Coefficient
 }
 
 // The polynomial with s at the fourth power whose square is m from there up: each coefficient is decided by those above it.
-fn candidate_of(m: Nine, s: i64) -> Search
-    requires { ⌜ Each wholes Sized (nine m) × Small s × (s ≢ pos 0) × (s *ℤ s ≡ m .m8) ⌝ }
-    ensures { λ r. ⌜ IsSearch (nine m) s r ⌝ }
+fn candidate_of(m: Octic, s: i64) -> Search
+    requires { ⌜ Each wholes Sized (octic m) × Small s × (s ≢ pos 0) × (s *ℤ s ≡ m .m8) ⌝ }
+    ensures { λ r. ⌜ IsSearch (octic m) s r ⌝ }
 {
     let m4 = m.m4;
     let m5 = m.m5;
@@ -128,18 +133,18 @@ fn candidate_of(m: Nine, s: i64) -> Search
     let m7 = m.m7;
     let t = s + s;
     let Coefficient::Whole(q3) = coefficient_of(m7, t) else {
-        return Search::Ended;
+        return Search::None;
     };
     let Coefficient::Whole(q2) = coefficient_of(m6 - q3 * q3, t) else {
-        return Search::Ended;
+        return Search::None;
     };
     let Coefficient::Whole(q1) = coefficient_of(m5 - 2 * (q2 * q3), t) else {
-        return Search::Ended;
+        return Search::None;
     };
     let Coefficient::Whole(q0) = coefficient_of(m4 - (2 * (q1 * q3) + q2 * q2), t) else {
-        return Search::Ended;
+        return Search::None;
     };
-    Search::Candidate(Quartic {
+    Search::Upper(Quartic {
         q0,
         q1,
         q2,
@@ -149,33 +154,33 @@ fn candidate_of(m: Nine, s: i64) -> Search
 }
 
 // The root of a polynomial with a coefficient at the eighth power.
-fn quartic_root(m: Nine) -> WholeRoot
-    requires { ⌜ Each wholes Sized (nine m) × Top wholes (nine m) 8 ⌝ }
-    ensures { λ r. ⌜ IsWholeRoot (nine m) r ⌝ }
+fn quartic_root(m: Octic) -> WholeRoot
+    requires { ⌜ Each wholes Sized (octic m) × Top wholes (octic m) 8 ⌝ }
+    ensures { λ r. ⌜ IsWholeRoot (octic m) r ⌝ }
 {
     let m8 = m.m8;
     if m8 < 0 {
-        return WholeRoot::NoRoot;
+        return WholeRoot::None;
     }
     let Root::Square(s) = square_root(m8 as u64) else {
-        return WholeRoot::NoRoot;
+        return WholeRoot::None;
     };
-    let Search::Candidate(q) = candidate_of(m, s as i64) else {
-        return WholeRoot::NoRoot;
+    let Search::Upper(q) = candidate_of(m, s as i64) else {
+        return WholeRoot::None;
     };
     if same_below(square(q), m) {
         WholeRoot::Root(q)
     } else {
-        WholeRoot::NoRoot
+        WholeRoot::None
     }
 }
 
 // t² m, where m has no power above the sixth.
-fn raised(m: Nine) -> Nine
-    requires { ⌜ Above wholes (at wholes (nine m)) 6 ⌝ }
-    ensures { λ r. ⌜ Same wholes (nine r) (pos 0 ∷ pos 0 ∷ nine m) ⌝ }
+fn raised(m: Octic) -> Octic
+    requires { ⌜ Above wholes (at wholes (octic m)) 6 ⌝ }
+    ensures { λ r. ⌜ Same wholes (octic r) (pos 0 ∷ pos 0 ∷ octic m) ⌝ }
 {
-    Nine {
+    Octic {
         m0: 0,
         m1: 0,
         m2: m.m0,
@@ -203,15 +208,15 @@ fn lowered(q: Quartic) -> Quartic
 }
 
 // The root of a polynomial whose highest power is 2 l. Below the eighth power it is that of t² m, divided by t.
-pub fn whole_root(m: Nine, l: u64) -> WholeRoot
-    requires { ⌜ Each wholes Sized (nine m) × Top wholes (nine m) (l + l) × (l ≤ 4) ⌝ }
-    ensures { λ r. ⌜ IsWholeRoot (nine m) r ⌝ }
+pub fn whole_root(m: Octic, l: u64) -> WholeRoot
+    requires { ⌜ Each wholes Sized (octic m) × Top wholes (octic m) (l + l) × (l ≤ 4) ⌝ }
+    ensures { λ r. ⌜ IsWholeRoot (octic m) r ⌝ }
 {
     if l == 4 {
         return quartic_root(m);
     }
     let WholeRoot::Root(q) = whole_root(raised(m), l + 1) else {
-        return WholeRoot::NoRoot;
+        return WholeRoot::None;
     };
     WholeRoot::Root(lowered(q))
 }

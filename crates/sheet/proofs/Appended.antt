@@ -18,11 +18,12 @@ use Rattle.curve.specs.declared.Curve.the-variants as form
 use Rattle.curve.specs.Curves.{pointsOf}
 use Rattle.record.specs.Numbers.{written}
 use Rattle.record.specs.Kinds.{rowOf, kindOf, numbersOf, recordOf}
-use Rattle.record.specs.Steps.{allWithin, stepOf}
+use Rattle.record.specs.Records.{allWithin, stepOf}
 use Rattle.record.specs.declared.steps.Step.{Step}
 use Rattle.record.specs.declared.steps.Step.the-variants as step
 use Rattle.record.proofs.Shown.{Whole, ends-erased, erased-ends}
 use Rattle.record.specs.Promise.{puttingAt}
+use Rattle.record.proofs.Pieces.{written-long}
 use Rattle.record.proofs.Formed.{record-whole, record-long, record-points}
 use Rattle.record.proofs.Putting.{done-by}
 use Rattle.sheet.specs.declared.walks.Ending.{Ending}
@@ -44,16 +45,6 @@ listed-one : (at : ℕ) (es : List Entry) (e : Entry) → Listed at es → e .pl
 listed-one at [] e l p w = (p ∙ omega arith, w, tt)
 listed-one at (x ∷ es) e l p w =
     (l .0, l .1, listed-one (at + length (x .bytes)) es e (l .2) (omega (arith, p, length-append (x .bytes) (flat es))) w)
-
-written-long : (s : List ℕ) (at : ℕ) (x : List ℕ) → at + length x ≤ length s → length (written s at x) ≡ length s
-written-long s at x l =
-    omega (
-      arith,
-      length-append (take at s) (x ++ drop (at + length x) s),
-      length-append x (drop (at + length x) s),
-      length-take-le at s (omega arith),
-      length-drop (at + length x) s,
-    )
 
 -- the step behind the records of a sheet that ends soundly
 ended : (at : ℕ) (x : Step) → Ended at x Sound → x ≡ step.Ends

@@ -1,27 +1,31 @@
 -- How many curves a sheet can have, and where its faults can be.
 --   curves-few, check-few   a sheet has at most 113 curves, and `check` counts no more
+--   Placed, fault-placed    LEFTOVER stands at the first byte behind the records that is not FF, every other fault where the records end
 --   fault-near              a faulty sheet's fault stands within 4,096 bytes
 use mathlib.Core.Path.{_≡_, refl, sym, ap, _∙_, subst}
 use mathlib.Core.Bool.{true}
-use mathlib.Core.List.{List, [], _∷_}
+use mathlib.Core.List.{List, [], _∷_, _++_}
 use Prim.Native.Nat.{ℕ, _+_, _*_, _≤_}
 use native.Mathlib.Omega.{arith}
 use lib.ListN.{length, length-append}
+use Rattle.refusal.specs.declared.Refusal.the-variants as refusal
 use Rattle.refusal.specs.declared.Fault.{Fault}
+use Rattle.refusal.specs.Table.{numberOf}
 use Rattle.refusal.specs.Answers.{refused}
-use Rattle.refusal.proofs.Answers.{by-test, by-order, no-answer, given-once}
+use Rattle.refusal.proofs.Answers.{by-test, by-order, no-answer, given-once, refused-back}
 use Rattle.record.specs.declared.kinds.Kind.the-variants.{Cubic}
 use Rattle.record.specs.Kinds.{rowOf}
-use Rattle.record.specs.Steps.{stepOf}
+use Rattle.record.specs.Records.{longest, stepOf}
 use Rattle.record.specs.declared.steps.Step.{Step}
 use Rattle.record.specs.declared.steps.Step.the-variants as step
-use Rattle.record.proofs.Shown.{fault-near as step-near}
+use Rattle.record.proofs.Shown.{fault-near as step-near, fault-placed as step-placed}
+use Rattle.record.proofs.Erased.{FirstLeft, left-behind}
 use Rattle.record.proofs.Table.{row-known}
 use Rattle.sheet.specs.declared.walks.Ending.{Ending}
 use Rattle.sheet.specs.declared.walks.Ending.the-variants.{Sound, Faulty}
 use Rattle.sheet.specs.declared.Checked.the-variants as checked
 use Rattle.sheet.specs.Survey.{Entry, Survey, survey, outcome, curves}
-use Rattle.sheet.specs.Promise.{Checks}
+use Rattle.sheet.specs.Promise.{countOf, Checks}
 use Rattle.sheet.proofs.Surveys.{flat, Listed, Ended, survey-long, faulty-of, faulty-once, sheet-parts}
 
 -- ---- how many
@@ -37,7 +41,7 @@ flat-long at (e ∷ es) w =
 
 pub curves-few : (s : List ℕ) → length (curves (survey s .records)) ≤ 113
 curves-few s =
-    by-order (length s) 4096
+    by-order (length s) longest
     (λ l.
     let p = sheet-parts s l in
     omega (arith, ap length (p .parts), length-append (flat (survey s .records)) (p .tail), flat-long 0 (survey s .records) (p .listed)))
@@ -59,14 +63,48 @@ ended-near at tail (step.Fault r offset) f q e = omega (arith, step-near tail r 
 ended-near at tail (step.Record k) f q e = absurd e
 
 module _ (s : List ℕ) where
-  fault-place : (f : Fault) → survey s .ending ≡ Faulty f → f .place ≤ 4096
+  fault-place : (f : Fault) → survey s .ending ≡ Faulty f → f .place ≤ longest
   fault-place f e =
-      by-order (length s) 4096
+      by-order (length s) longest
       (λ l.
       let p = sheet-parts s l in
       let near = ended-near (survey s .end) (p .tail) (stepOf (p .tail)) f refl (subst (λ (how : Ending). Ended (survey s .end) (stepOf (p .tail)) how) e (p .last)) in
       omega (arith, near, p .end-is, ap length (p .parts), length-append (flat (survey s .records)) (p .tail)))
       (λ l. omega (arith, ap (λ (x : Fault). x .place) (faulty-once (sym (ap (λ (v : Survey). v .ending) (survey-long s l)) ∙ e))))
 
-  pub fault-near : (f : Fault) → outcome s ≡ refused f → f .place ≤ 4096
+  pub fault-near : (f : Fault) → outcome s ≡ refused f → f .place ≤ longest
   fault-near f e = fault-place f (faulty-of s e)
+
+-- ---- where it stands
+
+abbrev pub Placed : List ℕ → ℕ → Fault → Type 0
+Placed s end f = (f .refusal ≡ refusal.Leftover → FirstLeft s end (f .place)) × ((f .refusal ≡ refusal.Leftover → ⊥) → f .place ≡ end)
+
+ended-placed : (front tail : List ℕ) (x : Step) (f : Fault) → stepOf tail ≡ x → Ended (length front) x (Faulty f) → Placed (front ++ tail) (length front) f
+ended-placed front tail step.Ends f q e = let z : _≡_ {A = ℕ} 0 1 = cc in absurd (omega arith)
+ended-placed front tail (step.Fault r offset) f q e =
+    let same = faulty-once e in
+    let why : f .refusal ≡ r = ap (λ (x : Fault). x .refusal) same in
+    let there : f .place ≡ length front + offset = ap (λ (x : Fault). x .place) same in
+    let (left, first) = step-placed tail r offset q in
+    (λ l. subst (FirstLeft (front ++ tail) (length front)) (sym there) (left-behind front tail (left (sym why ∙ l))), λ n. omega (arith, there, first (λ l. n (why ∙ l))))
+ended-placed front tail (step.Record k) f q e = absurd e
+
+pub fault-placed : (s : List ℕ) (f : Fault) → Checks s (checked.Refused f) → Placed s (survey s .end) f
+fault-placed s f h =
+    by-order (length s) longest
+    (λ l.
+    let p = sheet-parts s l in
+    let end : survey s .end ≡ length (flat (survey s .records)) = p .end-is ∙ omega arith in
+    let last = subst (λ (how : Ending). Ended (survey s .end) (stepOf (p .tail)) how) faulty (p .last) in
+    let placed = ended-placed (flat (survey s .records)) (p .tail) (stepOf (p .tail)) f refl (subst (λ (n : ℕ). Ended n (stepOf (p .tail)) (Faulty f)) end last) in
+    subst (λ (n : ℕ). Placed s n f) (sym end) (subst (λ (t : List ℕ). Placed t (length (flat (survey s .records))) f) (sym (p .parts)) placed))
+    (λ l.
+    let long = survey-long s l in
+    let same = faulty-once (sym faulty ∙ ap (λ (v : Survey). v .ending) long) in (
+      λ q. absurd (omega (arith, ap numberOf (sym q ∙ ap (λ (x : Fault). x .refusal) same))),
+      λ _. ap (λ (x : Fault). x .place) same ∙ sym (ap (λ (v : Survey). v .end) long),
+    ))
+  where
+    faulty : survey s .ending ≡ Faulty f
+    faulty = faulty-of s (refused-back countOf (outcome s) (sym h))

@@ -26,7 +26,7 @@ use Rattle.curve.specs.Promise.{out-of-range}
 use Rattle.record.specs.declared.kinds.Kind.{Kind}
 use Rattle.record.specs.Numbers.{coordinates, paired}
 use Rattle.record.specs.Kinds.{rowOf, words, kindOf, numbersOf, recordOf, pointsIn}
-use Rattle.record.specs.Steps.{allWithin}
+use Rattle.record.specs.Records.{allWithin}
 use Rattle.record.specs.Promise.{puttingAt}
 use Rattle.record.proofs.Table.{row-known}
 use Rattle.record.proofs.Formed.{record-points, range-is, range-paired}
@@ -38,6 +38,7 @@ use Rattle.sheet.specs.Survey.{Entry, Survey, survey, soundly, outcome, 
 use Rattle.sheet.specs.Promise.{answerOfReading, pointsOfEntry, part, appending, Reads, Finds}
 use Rattle.sheet.proofs.Surveys.{flat, short-of, sheet-parts}
 use Rattle.sheet.proofs.Standing.{nth-last, nth-other, chosen-sound, chosen-of, entry-long}
+use Rattle.sheet.proofs.Changed.{appending-sound}
 use Rattle.sheet.proofs.Appended.{entryOf, survey-after, curves-one}
 
 -- ---- find and read
@@ -96,14 +97,10 @@ module _ (s : List ℕ) (sound : survey s .ending ≡ Sound) where
       subst (λ (a : Answer Entry). First (no-curve number (curves (survey s .records)) ∷ []) (numberOfAnswer a)) (sym (chosen-sound s number sound))
       (nth-order number (curves (survey s .records)))
 
-  appending-at : (c : Curve) → appending s c ≡ puttingAt s (survey s .end) (kindOf c) (numbersOf (pointsOf c))
-  unfolding appending
-  appending-at c = ap (λ (how : Ending). then-given (λ es. puttingAt s (survey s .end) (kindOf c) (numbersOf (pointsOf c))) (soundly how (survey s .records))) sound
-
   pub append-order : (c : Curve) → First (out-of-range (pointsOf c) ∷ no-room s c ∷ []) (numberOfAnswer (appending s c))
   unfolding puttingAt
   append-order c =
-      subst Order (sym (appending-at c))
+      subst Order (sym (appending-sound s c sound))
       (by-test Order _
       (λ w. inl ((λ r. true≢false (sym (range-is (pointsOf c) .1 r) ∙ not-true _ w)), refl))
       (λ w. inr ((λ f. f (range-is (pointsOf c) .0 (not-false _ w))), by-test Room _ (λ l. inl (ltb-true _ _ l, refl)) (λ l. inr ((λ h. let k : rowOf (kindOf c) .size ≤ length s - survey s .end = ltb-false _ _ l in omega arith), refl)))))
@@ -120,7 +117,7 @@ module _ (s : List ℕ) (sound : survey s .ending ≡ Sound) where
     listed : (allWithin (numbersOf (pointsOf c)) ≡ true) × (survey t ≡ record { records = survey s .records ++ (entryOf (survey s .end) c ∷ []); end = survey s .end + length (recordOf c); ending = Sound })
     listed =
         let p = sheet-parts s (short-of s sound) in
-        survey-after s c t sound (omega (arith, p .end-is, ap length (p .parts), length-append (flat (survey s .records)) (p .tail))) (sym done ∙ appending-at c)
+        survey-after s c t sound (omega (arith, p .end-is, ap length (p .parts), length-append (flat (survey s .records)) (p .tail))) (sym done ∙ appending-sound s c sound)
 
     pub append-listed : survey t ≡ record { records = survey s .records ++ (entryOf (survey s .end) c ∷ []); end = survey s .end + length (recordOf c); ending = Sound }
     append-listed = listed .1

@@ -1,4 +1,4 @@
--- What the proofs share, and, in Places, Once, Laws, Faults and Examples, what other crates may cite.
+-- What the proofs share, and, in Places, Once, Laws, Kept, Faults and Examples, what other crates may cite.
 pub mod Surveys
 pub mod Standing
 pub mod Passed
@@ -8,5 +8,6 @@ pub mod Changed
 pub mod Appended
 pub mod Once
 pub mod Laws
+pub mod Kept
 pub mod Faults
 pub mod Examples

@@ -4,6 +4,7 @@ use mathlib.Core.Path.{_≡_, refl, sym, ap, _∙_}
 use mathlib.Core.List.{List}
 use Prim.Native.Nat.{ℕ}
 use lib.ListN.{getD}
+use denote.Ref.{RefT, ptr, now}
 use Rattle.refusal.specs.Answers.{Answer}
 use Rattle.refusal.proofs.Answers.{no-answer, given-once, refused-once}
 use Rattle.pair.specs.declared.Pair.{Pair}
@@ -17,7 +18,7 @@ use Rattle.sheet.specs.declared.Location.{Location}
 use Rattle.sheet.specs.declared.Location.the-variants as location
 use Rattle.sheet.specs.declared.Change.{Change}
 use Rattle.sheet.specs.declared.Change.the-variants as change
-use Rattle.sheet.specs.Promise.{answerOfChecked, answerOfReading, answerOfLocation, answerOfChange, erasing, appending, Checks, Reads, Locates, Finds, Changes, Erases, Appends}
+use Rattle.sheet.specs.Promise.{answerOfChecked, answerOfReading, answerOfLocation, answerOfChange, erasing, appending, Checks, Reads, Locates, FindsIn, Changes, Erases, Appends}
 
 checked-same : (r q : Checked) → answerOfChecked r ≡ answerOfChecked q → r ≡ q
 checked-same (checked.Curves m) (checked.Curves n) e = ap checked.Curves (given-once e)
@@ -58,11 +59,15 @@ module _ (s : List ℕ) where
   pub locate-once : (number : ℕ) (r q : Location) → Locates s number r → Locates s number q → r ≡ q
   locate-once number r q h k = location-same r q (h ∙ sym k)
 
-  pub find-once : (number : ℕ) (x y : List ℕ) → Finds s number x → Finds s number y → x ≡ y
-  find-once number x y h k = h ∙ sym k
-
   pub erase-once : (t u : List ℕ) (r q : Change) → Erases s t r → Erases s u q → (r ≡ q) × (t ≡ u)
   erase-once = change-once s (erasing s)
 
   pub append-once : (c : Curve) (t u : List ℕ) (r q : Change) → Appends s c t r → Appends s c u q → (r ≡ q) × (t ≡ u)
   append-once c t u r q h k = change-once s (appending s c) t u r q (h .changes) (k .changes)
+
+-- the same bytes of the same block: a reference's name is no memory
+pub find-once : (sheet : RefT (List ℕ)) (number : ℕ) (x y : RefT (List ℕ)) → FindsIn sheet number x → FindsIn sheet number y → (ptr x ≡ ptr y) × (now x ≡ now y)
+find-once sheet number x y h k =
+    let block = h .block ∙ sym (k .block) in
+    let place = h .place ∙ sym (k .place) in
+    (λ i. (block i, place i), h .bytes ∙ sym (k .bytes))

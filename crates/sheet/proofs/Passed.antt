@@ -20,7 +20,7 @@ use Rattle.refusal.specs.Answers.{Answer, if_then_else_}
 use Rattle.record.specs.declared.kinds.Kind.{Kind}
 use Rattle.record.specs.declared.steps.Step.the-variants as step
 use Rattle.record.specs.Kinds.{rowOf}
-use Rattle.record.specs.Steps.{stepOf}
+use Rattle.record.specs.Records.{longest, stepOf}
 use Rattle.record.proofs.Shown.{step-whole}
 use Rattle.sheet.specs.declared.walks.Ending.{Ending}
 use Rattle.sheet.specs.declared.walks.Ending.the-variants.{Sound, Faulty}
@@ -47,7 +47,7 @@ pub record Passed (s : List ℕ) (number at count from to : ℕ) : Type 0 where
 pub passed-none : (s : List ℕ) (number : ℕ) → Passed s number 0 0 0 0
 passed-none s number = record { behind = []; ahead = refl; room = omega arith; count-is = refl; few = omega arith; asked = nowhere refl }
 
-pub walked-long : (s : List ℕ) (number : ℕ) {f : Fault} → 4096 < length s → f ≡ record { refusal = refusal.TooLong; place = 0 } →
+pub walked-long : (s : List ℕ) (number : ℕ) {f : Fault} → longest < length s → f ≡ record { refusal = refusal.TooLong; place = 0 } →
     Walks s number (record { curves = 0; end = 0; from = 0; to = 0; ending = Faulty f })
 walked-long s number l g =
     let e = survey-long s l in
@@ -64,7 +64,7 @@ pub rest-is : (s : List ℕ) (at : ℕ) → take (length s - at) (drop at s) ≡
 rest-is s at = take-all (length s - at) (drop at s) (omega (arith, length-drop at s))
 
 module _ {s : List ℕ} {number at count from to : ℕ} (p : Passed s number at count from to) where
-  walked-as : (how : Ending) → length s ≤ 4096 → reads at (drop at s) ≡ nothing at how → Walks s number (record { curves = count; end = at; from = from; to = to; ending = how })
+  walked-as : (how : Ending) → length s ≤ longest → reads at (drop at s) ≡ nothing at how → Walks s number (record { curves = count; end = at; from = from; to = to; ending = how })
   walked-as how l e =
       let v : survey s ≡ record { records = p .behind; end = at; ending = how } =
       survey-short s l ∙ p .ahead ∙ ap (after (p .behind)) e ∙ ap (λ (es : List Entry). record { records = es; end = at; ending = how }) (append-nil (p .behind))
@@ -77,10 +77,10 @@ module _ {s : List ℕ} {number at count from to : ℕ} (p : Passed s number at 
         asked = subst (λ (v : Survey). Asked from to (nth number (curves (v .records)))) (sym v) (p .asked);
       }
 
-  pub sound-here : length s ≤ 4096 → stepOf (drop at s) ≡ step.Ends → Walks s number (record { curves = count; end = at; from = from; to = to; ending = Sound })
+  pub sound-here : length s ≤ longest → stepOf (drop at s) ≡ step.Ends → Walks s number (record { curves = count; end = at; from = from; to = to; ending = Sound })
   sound-here l e = walked-as Sound l (reads-ends at (drop at s) e)
 
-  pub fault-here : length s ≤ 4096 → {r : Refusal} {offset : ℕ} → stepOf (drop at s) ≡ step.Fault r offset →
+  pub fault-here : length s ≤ longest → {r : Refusal} {offset : ℕ} → stepOf (drop at s) ≡ step.Fault r offset →
       Walks s number (record { curves = count; end = at; from = from; to = to; ending = Faulty (record { refusal = r; place = at + offset }) })
   fault-here l {r} {offset} e = walked-as (Faulty (record { refusal = r; place = at + offset })) l (reads-fault at (drop at s) e)
 

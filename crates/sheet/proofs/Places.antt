@@ -20,9 +20,9 @@ use Rattle.record.specs.declared.kinds.Kind.{Kind}
 use Rattle.record.specs.declared.kinds.Kind.the-variants.{Cubic, Quintic}
 use Rattle.record.specs.declared.kinds.Named.the-variants as named-as
 use Rattle.record.specs.Kinds.{rowOf, kinds, pointsIn}
-use Rattle.record.specs.Steps.{kindIn}
+use Rattle.record.specs.Records.{kindIn}
 use Rattle.record.specs.declared.points.Held.the-variants as held
-use Rattle.record.specs.Promise.{Begins, IsHeld}
+use Rattle.record.specs.Promise.{BeginsRecord, IsHeld}
 use Rattle.record.proofs.Table.{known-kind, same-kind}
 use Rattle.sheet.specs.declared.Reading.the-variants as reading
 use Rattle.sheet.specs.declared.Location.the-variants as location
@@ -67,12 +67,12 @@ module _ {s : List ℕ} {number place long : ℕ} (h : Stands s number place lon
       same-kind kinds (drop place s) (h .entry .bytes) (head 2 (omega (arith, head-at))) (head 3 (omega (arith, head-at)))
       ∙ known-kind (h .entry .kind) (h .entry .bytes) (choice .stands .whole .here .name-is)
 
-  begins : Begins (drop place s) (h .entry .kind)
+  begins : BeginsRecord (drop place s) (h .entry .kind)
   begins =
       let long = length-drop place s in
       record { long = omega (arith, fits, head-at); name = kind-at; fits = omega (arith, fits, h .long-is, choice .stands .whole .long) }
 
-  pub held-nothing : IsHeld (drop place s) held.Nothing → ⊥
+  pub held-nothing : IsHeld (drop place s) held.None → ⊥
   held-nothing n = n (h .entry .kind) begins
 
   pub held-curve : (c : Curve) (size : ℕ) → IsHeld (drop place s) (held.Curve c size) → Reads s number (reading.Points c) × (size ≡ long)

@@ -19,6 +19,7 @@ use Rattle.refusal.proofs.Answers.{by-test, by-order, no-answer, given-once}
 use Rattle.record.specs.Kinds.{rowOf}
 use Rattle.record.proofs.Shown.{Whole}
 use Rattle.record.proofs.Table.{row-known}
+use Rattle.record.specs.Records.{longest}
 use Rattle.sheet.specs.declared.walks.Ending.{Ending}
 use Rattle.sheet.specs.declared.walks.Ending.the-variants.{Sound, Faulty}
 use Rattle.sheet.specs.Survey.{Entry, Survey, survey, soundly, outcome, curves, nth, chosen}
@@ -53,7 +54,7 @@ stand front (e ∷ es) tail w =
 
 pub all-stand : (s : List ℕ) → AllStand s (survey s .records)
 all-stand s =
-    by-order (length s) 4096
+    by-order (length s) longest
     (λ l.
     let p = sheet-parts s l in
     subst (λ (t : List ℕ). AllStand t (survey s .records)) (sym (p .parts)) (stand [] (survey s .records) (p .tail) (p .listed)))
@@ -115,7 +116,7 @@ module _ (s : List ℕ) (number : ℕ) where
 
 pub record Chosen (s : List ℕ) (number : ℕ) (e : Entry) : Type 0 where
   pub sound : survey s .ending ≡ Sound
-  pub short : length s ≤ 4096
+  pub short : length s ≤ longest
   pub listed : nth number (curves (survey s .records)) ≡ given e
   pub stands : Standing s e
   pub curve : rowOf (e .kind) .curve ≡ true

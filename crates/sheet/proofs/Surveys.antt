@@ -28,7 +28,7 @@ use Rattle.record.specs.declared.kinds.Kind.{Kind}
 use Rattle.record.specs.declared.steps.Step.{Step}
 use Rattle.record.specs.declared.steps.Step.the-variants as step
 use Rattle.record.specs.Kinds.{rowOf}
-use Rattle.record.specs.Steps.{stepOf}
+use Rattle.record.specs.Records.{longest, stepOf}
 use Rattle.record.proofs.Shown.{Whole, whole-step, step-whole}
 use Rattle.sheet.specs.declared.walks.Ending.{Ending}
 use Rattle.sheet.specs.declared.walks.Ending.the-variants.{Sound, Faulty}
@@ -79,11 +79,11 @@ module _ (at : ℕ) (rest : List ℕ) where
       unfolds (length rest) at rest
       ∙ rw e (ap (before (entryAt at rest k)) (same-bound (length rest) (suc (length (drop size rest))) (at + size) (drop size rest) (omega arith) (omega arith)))
 
-pub survey-long : (s : List ℕ) → 4096 < length s → survey s ≡ nothing 0 (Faulty (record { refusal = refusal.TooLong; place = 0 }))
+pub survey-long : (s : List ℕ) → longest < length s → survey s ≡ nothing 0 (Faulty (record { refusal = refusal.TooLong; place = 0 }))
 unfolding survey if_then_else_
 survey-long s l = rw (lt-ltb _ _ l)
 
-pub survey-short : (s : List ℕ) → length s ≤ 4096 → survey s ≡ reads 0 s
+pub survey-short : (s : List ℕ) → length s ≤ longest → survey s ≡ reads 0 s
 unfolding survey reads if_then_else_
 survey-short s l = rw (le-ltb _ _ l)
 
@@ -155,7 +155,7 @@ of-parts at (x ∷ xs) tail w e =
     ∙ ap (before x) later
     ∙ ap (λ (n : ℕ). record { records = x ∷ xs; end = n; ending = Sound }) (omega (arith, length-append (x .bytes) (flat xs)))
 
-pub survey-of : (s : List ℕ) (es : List Entry) (tail : List ℕ) → length s ≤ 4096 → s ≡ flat es ++ tail → Listed 0 es → stepOf tail ≡ step.Ends
+pub survey-of : (s : List ℕ) (es : List Entry) (tail : List ℕ) → length s ≤ longest → s ≡ flat es ++ tail → Listed 0 es → stepOf tail ≡ step.Ends
     → survey s ≡ record { records = es; end = length (flat es); ending = Sound }
 survey-of s es tail l p w e = survey-short s l ∙ ap (reads 0) p ∙ of-parts 0 es tail w e ∙ ap (λ (n : ℕ). record { records = es; end = n; ending = Sound }) (omega arith)
 
@@ -178,13 +178,13 @@ faulty-of s = faulty-as (survey s .ending) (survey s .records)
 pub faulty-once : {f g : Fault} → Faulty f ≡ Faulty g → f ≡ g
 faulty-once e = cc
 
-pub short-of : (s : List ℕ) → survey s .ending ≡ Sound → length s ≤ 4096
+pub short-of : (s : List ℕ) → survey s .ending ≡ Sound → length s ≤ longest
 short-of s e =
-    by-order (length s) 4096 (λ l. l) (λ l.
+    by-order (length s) longest (λ l. l) (λ l.
     let q : Faulty (record { refusal = refusal.TooLong; place = 0 }) ≡ Sound = sym (ap (λ (v : Survey). v .ending) (survey-long s l)) ∙ e in
     let z : _≡_ {A = ℕ} 0 1 = cc in
     absurd (omega arith))
 
-pub sheet-parts : (s : List ℕ) → length s ≤ 4096 → Parts 0 s (survey s)
+pub sheet-parts : (s : List ℕ) → length s ≤ longest → Parts 0 s (survey s)
 unfolding reads
 sheet-parts s l = subst (Parts 0 s) (sym (survey-short s l)) (parts-of (suc (length s)) 0 s (omega arith))

@@ -3,7 +3,7 @@
 --   forward                            a curve that was asked for does not end before it begins
 --   none-located, one-located, located-faulty    where the curve of a number stands
 --   refused-read, refused-found        where `locate` refuses, so does reading, and nothing is found
---   located-found                      what `locate` names is within the sheet's 4,096 bytes, and is the part that `find` gives
+--   located-found                      what `locate` names is within the sheet's 4,096 bytes, and is the part that `find` gives, and where
 use mathlib.Core.Path.{_≡_, refl, sym, ap, _∙_}
 use mathlib.Core.List.{List, [], _∷_}
 use Prim.Native.Nat.{ℕ, _+_, _-_, _≤_, _<_}
@@ -13,13 +13,14 @@ use Rattle.refusal.specs.declared.Refusal.the-variants as refusal
 use Rattle.refusal.specs.declared.Fault.{Fault}
 use Rattle.refusal.specs.Answers.{Answer, refused, given, refuse, with-given}
 use Rattle.refusal.proofs.Answers.{refused-back}
+use Rattle.record.specs.Records.{longest}
 use Rattle.sheet.specs.declared.walks.Ending.{Ending}
 use Rattle.sheet.specs.declared.walks.Ending.the-variants.{Sound, Faulty}
 use Rattle.sheet.specs.declared.walks.Walked.{Walked}
 use Rattle.sheet.specs.declared.Reading.the-variants as reading
 use Rattle.sheet.specs.declared.Location.the-variants as location
 use Rattle.sheet.specs.Survey.{Entry, survey, soundly, outcome, curves, nth, chosen}
-use Rattle.sheet.specs.Promise.{countOf, pointsOfEntry, placeOf, part, Reads, Locates, Finds}
+use Rattle.sheet.specs.Promise.{countOf, pointsOfEntry, placeOf, part, startOf, Reads, Locates, Finds}
 use Rattle.sheet.specs.Steps.{Asked, nowhere, there, Walks}
 use Rattle.sheet.proofs.Standing.{nth-stands, entry-long, chosen-sound, chosen-faulty}
 use Rattle.sheet.proofs.Places.{stands, choice, fits, bytes-at}
@@ -70,11 +71,11 @@ module _ (s : List ℕ) (number : ℕ) {f : Fault} (h : Locates s number (locati
   pub refused-read : Reads s number (reading.Refused f)
   refused-read = sym (ap (with-given pointsOfEntry) chosen-refused)
 
-  pub refused-found : Finds s number []
-  refused-found = sym (ap part chosen-refused)
+  pub refused-found : Finds s number [] × (startOf (chosen number s) ≡ 0)
+  refused-found = (sym (ap part chosen-refused), ap startOf chosen-refused)
 
 pub located-found : (s : List ℕ) (number place long : ℕ) → Locates s number (location.At place long) →
-    (length s ≤ 4096) × (place + long ≤ length s) × Finds s number (take long (drop place s))
+    (length s ≤ longest) × (place + long ≤ length s) × Finds s number (take long (drop place s)) × (startOf (chosen number s) ≡ place)
 located-found s number place long e =
     let h = stands s number place long e in
-    (choice h .short, fits h, bytes-at h ∙ sym (ap part (h .chosen-is)))
+    (choice h .short, fits h, bytes-at h ∙ sym (ap part (h .chosen-is)), ap startOf (h .chosen-is) ∙ h .place-is)

@@ -1,17 +1,18 @@
 -- What each call promises. For every answer there is a definition of 01's number and of its values in each case, and the promises speak through it.
 --   answerOfChecked, answerOfReading, answerOfLocation, answerOfChange   an answer in 01's terms
 --   countOf, pointsOfEntry, placeOf    what check, read and locate say of the records, and of the one that was asked for
---   part       the bytes of a chosen record: none where it is refused
+--   part, startOf    the bytes of a chosen record, and where they begin: none, at the sheet's start, where it is refused
 --   Changes    what a call that writes a sheet says and leaves
 --   erasing    the sheet that erase is to leave
 --   appending  the sheet that append is to leave
 --   curvesIn   the curves of a sheet, each as its points
---   Checks, Reads, Locates, Finds, Erases, Appends     the promises
+--   Checks, Reads, Locates, Finds, FindsIn, Erases, Appends     the promises
 use mathlib.Core.Path.{_≡_}
 use mathlib.Core.List.{List, [], _∷_, _++_, map}
-use Prim.Native.Nat.{ℕ}
+use Prim.Native.Nat.{ℕ, _+_}
 use lib.Dec.{ltb}
 use lib.ListN.{length, replicate}
+use denote.Ref.{RefT, ptr, now}
 use Rattle.refusal.specs.declared.Refusal.the-variants as refusal
 use Rattle.refusal.specs.Answers.{Answer, refused, given, refuse, then-given, with-given, if_then_else_}
 use Rattle.pair.specs.declared.Pair.{Pair}
@@ -19,6 +20,7 @@ use Rattle.curve.specs.declared.Curve.{Curve}
 use Rattle.curve.specs.Curves.{pointsOf}
 use Rattle.record.specs.Kinds.{kindOf, numbersOf, pointsIn}
 use Rattle.record.specs.Promise.{puttingAt, bytesAfter}
+use Rattle.record.specs.Records.{longest, erased}
 use Rattle.sheet.specs.declared.Checked.{Checked}
 use Rattle.sheet.specs.declared.Checked.the-variants as checked
 use Rattle.sheet.specs.declared.Reading.{Reading}
@@ -59,6 +61,10 @@ abbrev pub part : Answer Entry → List ℕ
 part (refused f) = []
 part (given e) = e .bytes
 
+abbrev pub startOf : Answer Entry → ℕ
+startOf (refused f) = 0
+startOf (given e) = e .place
+
 -- check: how many curves the sheet has
 abbrev pub Checks : List ℕ → Checked → Type 0
 Checks s r = answerOfChecked r ≡ with-given countOf (outcome s)
@@ -71,9 +77,15 @@ Reads s number r = answerOfReading r ≡ with-given pointsOfEntry (chosen number
 abbrev pub Locates : List ℕ → ℕ → Location → Type 0
 Locates s number r = answerOfLocation r ≡ with-given placeOf (chosen number s)
 
--- find: the record itself, and nothing where it is refused
+-- the bytes that find gives: the record itself, and nothing where it is refused
 abbrev pub Finds : List ℕ → ℕ → List ℕ → Type 0
 Finds s number x = x ≡ part (chosen number s)
+
+-- find: a part of the caller's own sheet, with these bytes, that begins where the record does; a reference points into a block of memory
+pub record FindsIn (sheet : RefT (List ℕ)) (number : ℕ) (x : RefT (List ℕ)) : Type 0 where
+  pub bytes : Finds (now sheet) number (now x)
+  pub block : ptr x .0 ≡ ptr sheet .0
+  pub place : ptr x .1 ≡ ptr sheet .1 + startOf (chosen number (now sheet))
 
 -- a call on a sheet s that writes: afterwards the sheet is t
 pub record Changes (s : List ℕ) (asked : Answer (List ℕ)) (t : List ℕ) (r : Change) : Type 0 where
@@ -81,7 +93,7 @@ pub record Changes (s : List ℕ) (asked : Answer (List ℕ)) (t : List ℕ) (r 
   pub leaves : t ≡ bytesAfter s asked
 
 unfoldable pub erasing : List ℕ → Answer (List ℕ)
-erasing s = if ltb 4096 (length s) then refuse refusal.TooLong 0 else given (replicate (length s) 255)
+erasing s = if ltb longest (length s) then refuse refusal.TooLong 0 else given (replicate (length s) erased)
 
 -- erase
 abbrev pub Erases : List ℕ → List ℕ → Change → Type 0

@@ -20,7 +20,7 @@ use Rattle.record.specs.declared.kinds.Kind.{Kind}
 use Rattle.record.specs.declared.steps.Step.{Step}
 use Rattle.record.specs.declared.steps.Step.the-variants as step
 use Rattle.record.specs.Kinds.{rowOf}
-use Rattle.record.specs.Steps.{stepOf}
+use Rattle.record.specs.Records.{longest, stepOf}
 use Rattle.sheet.specs.declared.walks.Ending.{Ending}
 use Rattle.sheet.specs.declared.walks.Ending.the-variants.{Sound, Faulty}
 
@@ -56,7 +56,7 @@ surveyFrom (suc most) at rest = found at rest (λ size. surveyFrom most (at + si
 -- a sheet has no more records than bytes
 unfoldable pub survey : List ℕ → Survey
 survey s =
-    if ltb 4096 (length s) then nothing 0 (Faulty (record { refusal = refusal.TooLong; place = 0 })) else surveyFrom (suc (length s)) 0 s
+    if ltb longest (length s) then nothing 0 (Faulty (record { refusal = refusal.TooLong; place = 0 })) else surveyFrom (suc (length s)) 0 s
 
 abbrev pub soundly : {A : Type 0} → Ending → A → Answer A
 soundly Sound a = given a

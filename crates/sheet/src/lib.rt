@@ -8,11 +8,13 @@
 // No call asks anything of its arguments. A call that refuses leaves the sheet as it was.
 mod walks;
 
-ghost use Rattle.sheet.specs.Promise.{Checks, Reads, Locates, Finds, Erases, Appends};
+ghost use Rattle.sheet.specs.Promise.{Checks, Reads, Locates, FindsIn, Erases, Appends};
 use crate::walks::Ending;
 use crate::walks::walk;
 use curve::Curve;
+use record::ERASED;
 use record::Held;
+use record::LONGEST;
 use record::Put;
 use record::held_curve;
 use record::put_curve;
@@ -84,7 +86,7 @@ pub fn read(sheet: &[u8], number: usize) -> Reading
         Location::At { place, length: _ } => match held_curve(&sheet[place..]) {
             Held::Curve { curve, size: _ } => Reading::Points(curve),
             // A curve's record stands there.
-            Held::Nothing => Reading::Refused(nowhere(Refusal::Number)),
+            Held::None => Reading::Refused(nowhere(Refusal::Number)),
         },
         Location::Refused(f) => Reading::Refused(f),
     }
@@ -92,7 +94,7 @@ pub fn read(sheet: &[u8], number: usize) -> Reading
 
 // The part of the sheet that holds curve `number`, from 1; an empty part where reading it is refused.
 pub fn find<'a>(sheet: &'a [u8], number: usize) -> &'a [u8]
-    ensures { λ r. ⌜ Finds (now (sheet .entry)) number (now r) ⌝ }
+    ensures { λ r. ⌜ FindsIn (sheet .entry) number r ⌝ }
 {
     match locate(sheet, number) {
         Location::At { place, length } => &sheet[place..place + length],
@@ -104,12 +106,12 @@ pub fn find<'a>(sheet: &'a [u8], number: usize) -> &'a [u8]
 pub fn erase(sheet: &mut [u8]) -> Change
     ensures { λ r. ⌜ Erases (now (sheet .entry)) (now (sheet .exit)) r ⌝ }
 {
-    if sheet.len() > 4096 {
+    if sheet.len() > LONGEST {
         return Change::Refused(nowhere(Refusal::TooLong));
     }
     let mut i: usize = 0;
     while i < sheet.len() {
-        sheet[i] = 255;
+        sheet[i] = ERASED;
         i += 1;
     }
     Change::Done

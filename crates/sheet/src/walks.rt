@@ -1,5 +1,8 @@
 // The walk over a sheet's records.
+ghost use mathlib.Core.Path.{_≡_};
+ghost use Rattle.sheet.specs.declared.walks.Ending.the-variants.{Sound, Faulty};
 ghost use Rattle.sheet.specs.Steps.{Walks};
+use record::LONGEST;
 use record::Step;
 use record::row_of;
 use record::step_of;
@@ -23,18 +26,36 @@ pub struct Walked {
     pub ending: Ending,
 }
 
+fn sound(curves: usize, end: usize, from: usize, to: usize) -> Walked
+    ensures { λ r. ⌜ r ≡ record { curves = curves; end = end; from = from; to = to; ending = Sound } ⌝ }
+{
+    Walked {
+        curves,
+        end,
+        from,
+        to,
+        ending: Ending::Sound,
+    }
+}
+
+fn faulty(curves: usize, end: usize, from: usize, to: usize, fault: Fault) -> Walked
+    ensures { λ r. ⌜ r ≡ record { curves = curves; end = end; from = from; to = to; ending = Faulty fault } ⌝ }
+{
+    Walked {
+        curves,
+        end,
+        from,
+        to,
+        ending: Ending::Faulty(fault),
+    }
+}
+
 // The one walk over a sheet's records. It remembers where curve `number`, from 1, stands.
 pub(crate) fn walk(sheet: &[u8], number: usize) -> Walked
     ensures { λ r. ⌜ Walks (now (sheet .entry)) number r ⌝ }
 {
-    if sheet.len() > 4096 {
-        return Walked {
-            curves: 0,
-            end: 0,
-            from: 0,
-            to: 0,
-            ending: Ending::Faulty(nowhere(Refusal::TooLong)),
-        };
+    if sheet.len() > LONGEST {
+        return faulty(0, 0, 0, 0, nowhere(Refusal::TooLong));
     }
     let mut at: usize = 0;
     let mut curves: usize = 0;
@@ -43,23 +64,11 @@ pub(crate) fn walk(sheet: &[u8], number: usize) -> Walked
     loop {
         match step_of(&sheet[at..]) {
             Step::Ends => {
-                return Walked {
-                    curves,
-                    end: at,
-                    from,
-                    to,
-                    ending: Ending::Sound,
-                };
+                return sound(curves, at, from, to);
             }
             Step::Fault(refusal, offset) => {
                 let place = (at + offset) as u32;
-                return Walked {
-                    curves,
-                    end: at,
-                    from,
-                    to,
-                    ending: Ending::Faulty(Fault { refusal, place }),
-                };
+                return faulty(curves, at, from, to, Fault { refusal, place });
             }
             Step::Record(kind) => {
                 let row = row_of(kind);

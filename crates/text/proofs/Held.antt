@@ -24,7 +24,7 @@ use Rattle.text.specs.declared.Place.the-variants.{At, Full}
 use Rattle.text.specs.declared.TextAnswer.{TextAnswer}
 use Rattle.text.specs.declared.TextAnswer.the-variants.{Written, Refused}
 use Rattle.text.specs.Promise.{answerOfText, asked, areaAfter, TextIn}
-use Rattle.text.specs.Steps.{Holds, Writes, Ends}
+use Rattle.text.specs.Steps.{HoldsText, Writes, Ends}
 
 pub asked-fits : (room : ℕ) (text : List ℕ) → length text ≤ room → asked room text ≡ given (length text)
 unfolding asked if_then_else_
@@ -89,11 +89,11 @@ module _ (area : List ℕ) where
       → Ends area place (take end area ++ (x ++ drop (length area - end) (drop end area))) (Written end)
   unfolding areaAfter if_then_else_
   ends-written {place} end {x} p e = record {
-    says = λ text held. let h = subst (Holds area text) p held in sym (asked-fits (length area) text (omega (arith, h .0, h .1)) ∙ ap given (sym (h .0)));
-    leaves = λ text held. leaves text (subst (Holds area text) p held);
+    says = λ text held. let h = subst (HoldsText area text) p held in sym (asked-fits (length area) text (omega (arith, h .0, h .1)) ∙ ap given (sym (h .0)));
+    leaves = λ text held. leaves text (subst (HoldsText area text) p held);
   }
     where
-      leaves : (text : List ℕ) → Holds area text (At end) → take end area ++ (x ++ drop (length area - end) (drop end area)) ≡ areaAfter (length area) text
+      leaves : (text : List ℕ) → HoldsText area text (At end) → take end area ++ (x ++ drop (length area - end) (drop end area)) ≡ areaAfter (length area) text
       leaves text h =
           let room = le-ltb (length area) (length text) (omega (arith, h .0, h .1)) in
           let cut = length-drop end area in
@@ -104,7 +104,7 @@ module _ (area : List ℕ) where
           rw room (ap₂ _++_ (h .2) tail)
 
   -- a text that did not fit, or a place beyond the area, where no text is held
-  pub ends-full : (place : Place) {x : List ℕ} → ((text : List ℕ) → Holds area text place → length area < length text) → x ≡ replicate (length area) 0
+  pub ends-full : (place : Place) {x : List ℕ} → ((text : List ℕ) → HoldsText area text place → length area < length text) → x ≡ replicate (length area) 0
       → Ends area place x (Refused refusal.Room)
   unfolding asked areaAfter if_then_else_
   ends-full place long e = record {

@@ -17,7 +17,7 @@ use Rattle.whole.proofs.Linear.{linear}
 use Rattle.text.specs.declared.Place.{Place}
 use Rattle.text.specs.declared.Place.the-variants.{At, Full}
 use Rattle.text.specs.Texts.{bytes, sign}
-use Rattle.text.specs.Steps.{Holds, Writes}
+use Rattle.text.specs.Steps.{HoldsText, Writes}
 
 pub copied-more :
     (area text front : List ℕ) (at i : ℕ) → at < length area → i < length text → take at area ≡ front ++ take i text →
@@ -36,7 +36,7 @@ module _ (before text after : List ℕ) (start at i : ℕ) (at-is : at ≡ start
   pub copied-all : i ≡ length text → take at after ≡ take start before ++ take i text → Writes before (At start) text after (At at)
   copied-all l e = record { then-holds = held-then }
     where
-      held-then : (held : List ℕ) → Holds before held (At start) → Holds after (held ++ text) (At at)
+      held-then : (held : List ℕ) → HoldsText before held (At start) → HoldsText after (held ++ text) (At at)
       held-then held h =
           let t : take at after ≡ held ++ text = e ∙ ap (λ (x : List ℕ). x ++ take i text) (h .2) ∙ ap (λ (x : List ℕ). held ++ x) (take-all i text (omega arith)) in
           let n = length-append held text in
@@ -46,7 +46,7 @@ pub writes-full : (before text : List ℕ) → Writes before Full text before Fu
 writes-full before text = record { then-holds = λ held h. omega (arith, h, length-append held text) }
 
 pub writes-none : (area : List ℕ) (place : Place) → Writes area place [] area place
-writes-none area place = record { then-holds = λ held h. subst (λ (x : List ℕ). Holds area x place) (sym (append-nil held)) h }
+writes-none area place = record { then-holds = λ held h. subst (λ (x : List ℕ). HoldsText area x place) (sym (append-nil held)) h }
 
 pub writes-same : {a b t u : List ℕ} {p q : Place} → t ≡ u → Writes a p t b q → Writes a p u b q
 writes-same {a} {b} {p = p} {q = q} e w = subst (λ (x : List ℕ). Writes a p x b q) e w
@@ -54,7 +54,7 @@ writes-same {a} {b} {p = p} {q = q} e w = subst (λ (x : List ℕ). Writes a p x
 infixl 50 _then_
 pub _then_ : {a b c t u : List ℕ} {p q r : Place} → Writes a p t b q → Writes b q u c r → Writes a p (t ++ u) c r
 _then_ {c = c} {t = t} {u = u} {r = r} f g = record {
-  then-holds = λ held h. subst (λ (x : List ℕ). Holds c x r) (append-assoc held t u) (g .then-holds (held ++ t) (f .then-holds held h));
+  then-holds = λ held h. subst (λ (x : List ℕ). HoldsText c x r) (append-assoc held t u) (g .then-holds (held ++ t) (f .then-holds held h));
 }
 
 -- ---- signs

@@ -1,2 +1,2 @@
--- The laws that the proofs of several functions share.
+-- What a proof of this crate stands on.
 pub mod Prefixes

@@ -3,6 +3,7 @@ ghost use mathlib.Core.Path.{_≡_};
 ghost use Prim.Native.Nat.{_≤_};
 ghost use lib.ListN.{length};
 use crate::curves;
+use crate::runs::put_runs;
 use crate::sheets;
 use whole::size;
 
@@ -93,13 +94,16 @@ fn build(n: &[i64], count: usize)
     }
 }
 
-fn append(n: &[i64], area: &mut [u8])
+// Where the runs of a sheet begin among the numbers of a call: behind them all where it has no sheet.
+pub(crate) fn runs_from(call: usize, n: &[i64]) -> usize
     requires { ⌜ length (now n) ≡ 64 ⌝ }
+    ensures { λ r. ⌜ r ≤ 64 ⌝ }
 {
-    if n[0] == 8 {
-        sheets::append(area, &n[1..9], &n[9..]);
-    } else {
-        sheets::append(area, &n[1..13], &n[13..]);
+    match call {
+        1 | 2 | 3 | 4 | 5 | 6 => 64,
+        7 | 10 => 0,
+        8 | 9 => 1,
+        _ => { if n[0] == 8 { 9 } else { 13 } }
     }
 }
 
@@ -107,13 +111,9 @@ fn append(n: &[i64], area: &mut [u8])
 fn on_sheet(call: usize, n: &[i64], area: &mut [u8])
     requires { ⌜ length (now n) ≡ 64 ⌝ }
 {
-    match call {
-        7 => sheets::check(area, n),
-        8 => sheets::read(area, n[0], &n[1..]),
-        9 => sheets::find(area, n[0], &n[1..]),
-        10 => sheets::erase(area, n),
-        _ => append(n, area),
-    }
+    let from = runs_from(call, n);
+    let end = put_runs(area, &n[from..]);
+    sheets::ask(call, &n[0..from], &mut area[..end]);
 }
 
 pub(crate) fn answer(call: usize, n: &[i64], count: usize, area: &mut [u8])

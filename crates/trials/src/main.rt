@@ -11,14 +11,16 @@ mod runs;
 mod sheets;
 mod words;
 
-ghost use Prim.Native.Nat.{_≤_};
+ghost use Prim.Native.Nat.{_<_};
 ghost use lib.ListN.{length};
-use crate::words::say;
+ghost use Rattle.record.specs.Records.{longest};
 use libc::STDIN_FILENO;
+use record::LONGEST;
+use words::say;
 
 // A text that fills its area may go on behind it. The other area is what sheets are made in: one byte too many is told from a sheet.
 fn answer_input(text: &mut [u8], area: &mut [u8])
-    requires { ⌜ 4097 ≤ length (now area) ⌝ }
+    requires { ⌜ longest < length (now area) ⌝ }
 {
     let read = io::read_full(STDIN_FILENO, text);
     if read == text.len() {
@@ -30,6 +32,6 @@ fn answer_input(text: &mut [u8], area: &mut [u8])
 
 fn main() {
     let mut text = io::large_buffer();
-    let mut area = [0u8; 4097];
+    let mut area = [0u8; LONGEST + 1];
     answer_input(&mut text, &mut area);
 }

@@ -2,8 +2,9 @@
 ghost use mathlib.Core.Path.{_≡_};
 ghost use Prim.Native.Nat.{_≤_};
 ghost use lib.ListN.{length};
-use crate::places::find_gap;
-use crate::words::same;
+use crate::places::Sought;
+use crate::places::find;
+use crate::places::row_of;
 
 // What a word is worth: a number, nothing (it only joins numbers), or it is no word of a call.
 enum Worth {
@@ -14,8 +15,8 @@ enum Worth {
 
 // So many numbers, and where the first word is that belongs to no call: the text's end, if there is none.
 pub(crate) struct Found {
-    pub(crate) count: usize,
-    pub(crate) wrong: usize,
+    pub count: usize,
+    pub wrong: usize,
 }
 
 // A size with its sign, if 64 bits hold it.
@@ -64,27 +65,16 @@ fn number(word: &[u8]) -> Worth {
     digits(word, false)
 }
 
-fn only_joins(word: &[u8]) -> bool {
-    same(word, b"by")
-        || same(word, b"in")
-        || same(word, b"from")
-        || same(word, b"over")
-        || same(word, b"of")
-        || same(word, b"to")
-}
-
-// A kind stands for how many coordinates it has.
+// A kind stands for how many coordinates it has; the other words only join numbers.
 fn worth_of(word: &[u8]) -> Worth {
-    if only_joins(word) {
-        return Worth::Nothing;
+    let words = b"C3 POINTS\nC5 POINTS\nby H\nin ROOM\nfrom W0\nover T\nof RUNS\nto RUNS";
+    let known = row_of(words, word).number;
+    match known {
+        0 => number(word),
+        1 => Worth::Number(8),
+        2 => Worth::Number(12),
+        _ => Worth::Nothing,
     }
-    if same(word, b"C3") {
-        return Worth::Number(8);
-    }
-    if same(word, b"C5") {
-        return Worth::Number(12);
-    }
-    number(word)
 }
 
 // Writes the numbers of a text from a place on. There is room for 64.
@@ -93,9 +83,9 @@ pub(crate) fn arguments(text: &[u8], from: usize, out: &mut [i64]) -> Found
     ensures { λ _. ⌜ length (now (out .exit)) ≡ length (now (out .entry)) ⌝ }
 {
     let mut count: usize = 0;
-    let mut at = find_gap(text, from, false);
+    let mut at = find(text, from, Sought::Word);
     while at < text.len() {
-        let end = find_gap(text, at + 1, true);
+        let end = find(text, at + 1, Sought::Gap);
         match worth_of(&text[at..end]) {
             Worth::Number(x) => {
                 if count >= out.len() {
@@ -107,7 +97,7 @@ pub(crate) fn arguments(text: &[u8], from: usize, out: &mut [i64]) -> Found
             Worth::Nothing => (),
             Worth::Unknown => return Found { count, wrong: at },
         }
-        at = find_gap(text, end, false);
+        at = find(text, end, Sought::Word);
     }
     Found { count, wrong: at }
 }

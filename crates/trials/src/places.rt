@@ -3,35 +3,34 @@ ghost use Prim.Native.Nat.{_≤_};
 ghost use lib.ListN.{length};
 use crate::words::same;
 
-// The first place from `from` on that has the byte, or the text's end.
-pub(crate) fn find(text: &[u8], from: usize, byte: u8) -> usize
-    requires { ⌜ from ≤ length (now text) ⌝ }
-    ensures { λ r. ⌜ from ≤ r ⌝ }
-    ensures { λ r. ⌜ r ≤ length (now (text .entry)) ⌝ }
-{
-    let mut at = from;
-    while at < text.len() {
-        if text[at] == byte {
-            return at;
-        }
-        at += 1;
-    }
-    at
+// What is looked for in a text.
+pub(crate) enum Sought {
+    Byte(u8),
+    Gap,
+    Word,
 }
 
 fn is_gap(b: u8) -> bool {
     b == b' ' || b == b'(' || b == b')' || b == b',' || b == b'\t' || b == b'\r'
 }
 
-// Where the word ends that begins at a place (a gap is no part of it), or, from a gap on, where the next word begins.
-pub(crate) fn find_gap(text: &[u8], from: usize, gap: bool) -> usize
+fn is_sought(b: u8, sought: Sought) -> bool {
+    match sought {
+        Sought::Byte(x) => b == x,
+        Sought::Gap => is_gap(b),
+        Sought::Word => !is_gap(b),
+    }
+}
+
+// The first place from `from` on that has what is sought, or the text's end.
+pub(crate) fn find(text: &[u8], from: usize, sought: Sought) -> usize
     requires { ⌜ from ≤ length (now text) ⌝ }
     ensures { λ r. ⌜ from ≤ r ⌝ }
     ensures { λ r. ⌜ r ≤ length (now (text .entry)) ⌝ }
 {
     let mut at = from;
     while at < text.len() {
-        if is_gap(text[at]) == gap {
+        if is_sought(text[at], sought) {
             return at;
         }
         at += 1;
@@ -41,9 +40,9 @@ pub(crate) fn find_gap(text: &[u8], from: usize, gap: bool) -> usize
 
 // Where a line of the table stands, and its number. Where there is none it is 0, and stands for the whole table.
 pub(crate) struct Row {
-    pub(crate) number: usize,
-    pub(crate) from: usize,
-    pub(crate) to: usize,
+    pub number: usize,
+    pub from: usize,
+    pub to: usize,
 }
 
 pub(crate) fn row_of(table: &[u8], name: &[u8]) -> Row
@@ -52,8 +51,8 @@ pub(crate) fn row_of(table: &[u8], name: &[u8]) -> Row
     let mut number: usize = 1;
     let mut from: usize = 0;
     while from < table.len() {
-        let to = find(table, from, b'\n');
-        let end = find_gap(table, from, true);
+        let to = find(table, from, Sought::Byte(b'\n'));
+        let end = find(table, from, Sought::Gap);
         if same(name, &table[from..end]) {
             return Row { number, from, to };
         }

@@ -25,6 +25,21 @@ fn put_run(area: &mut [u8], from: usize, byte: u8, many: u64) -> usize
     at
 }
 
+// The first number of runs that is no byte, from a place on, or how many numbers there are.
+pub(crate) fn no_byte(n: &[i64], from: usize) -> usize
+    ensures { λ r. ⌜ r ≤ length (now (n .entry)) ⌝ }
+{
+    let mut i = from;
+    while i < n.len() {
+        if byte(n[i]) as i64 != n[i] {
+            return i;
+        }
+        i += 2;
+    }
+    n.len()
+}
+
+// What a number has in a byte.
 fn byte(x: i64) -> u8 {
     (size(x) % 256) as u8
 }

@@ -1,15 +1,13 @@
-// The calls on sheets, and what each answers. A sheet is told by its runs of equal bytes, and made in the area.
+// The calls on sheets, and what each answers.
 use crate::answers::say_fault;
 use crate::curves::say_points;
-use crate::runs::put_runs;
 use crate::runs::say_runs;
 use crate::words::say;
 use crate::words::say_form;
 use whole::size;
 
-pub(crate) fn check(area: &mut [u8], runs: &[i64]) {
-    let end = put_runs(area, runs);
-    let returned = sheet_calls::check(&area[..end]);
+fn check(sheet: &[u8]) {
+    let returned = sheet_calls::check(sheet);
     if returned < 0 {
         say_fault(returned);
     } else {
@@ -17,10 +15,9 @@ pub(crate) fn check(area: &mut [u8], runs: &[i64]) {
     }
 }
 
-pub(crate) fn read(area: &mut [u8], number: i64, runs: &[i64]) {
-    let end = put_runs(area, runs);
+fn read(sheet: &[u8], number: i64) {
     let mut out = [0i64; 12];
-    let returned = sheet_calls::read(&area[..end], size(number), &mut out);
+    let returned = sheet_calls::read(sheet, size(number), &mut out);
     if returned < 0 {
         say_fault(returned);
     } else {
@@ -28,9 +25,8 @@ pub(crate) fn read(area: &mut [u8], number: i64, runs: &[i64]) {
     }
 }
 
-pub(crate) fn find(area: &mut [u8], number: i64, runs: &[i64]) {
-    let end = put_runs(area, runs);
-    let part = sheet::find(&area[..end], size(number) as usize);
+fn find(sheet: &[u8], number: i64) {
+    let part = sheet::find(sheet, size(number) as usize);
     say_form(b"# bytes", &[part.len() as i64]);
     say_runs(part);
 }
@@ -46,22 +42,29 @@ fn say_change(returned: i64, sheet: &[u8]) {
     say_runs(sheet);
 }
 
-fn erase_all(sheet: &mut [u8]) {
+fn erase(sheet: &mut [u8]) {
     let returned = sheet_calls::erase(sheet);
     say_change(returned, sheet);
 }
 
-pub(crate) fn erase(area: &mut [u8], runs: &[i64]) {
-    let end = put_runs(area, runs);
-    erase_all(&mut area[..end]);
-}
-
-fn append_to(sheet: &mut [u8], points: &[i64]) {
+fn append(sheet: &mut [u8], points: &[i64]) {
     let returned = sheet_calls::append(sheet, points);
     say_change(returned, sheet);
 }
 
-pub(crate) fn append(area: &mut [u8], points: &[i64], runs: &[i64]) {
-    let end = put_runs(area, runs);
-    append_to(&mut area[..end], points);
+// The call with what is given before its sheet: nothing, or a number, and behind it perhaps points.
+pub(crate) fn ask(call: usize, given: &[i64], sheet: &mut [u8]) {
+    if given.len() == 0 {
+        if call == 7 {
+            check(sheet);
+        } else {
+            erase(sheet);
+        }
+        return;
+    }
+    match call {
+        8 => read(sheet, given[0]),
+        9 => find(sheet, given[0]),
+        _ => append(sheet, &given[1..]),
+    }
 }

@@ -6,7 +6,8 @@
 use mathlib.Core.Path.{_≡_, sym, ap, _∙_}
 use mathlib.Core.List.{List}
 use mathlib.Core.Logic.{_≢_, ⊎-elim}
-use Rattle.whole.specs.Poly.{at, Same, Divides, Greatest, scaled, square}
+use Rattle.whole.specs.Coefficients.{at, Divides, Greatest}
+use Rattle.poly.specs.Polynomials.{Same, scaled, square}
 use Rattle.poly.specs.Terms.{Primitive}
 use Rattle.poly.proofs.Lists.{at-scaled, square-scaled, square-same}
 use Rattle.poly.proofs.Domain.{times-cancel}

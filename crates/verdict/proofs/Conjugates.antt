@@ -1,11 +1,12 @@
 -- |p|² is p p̄, with p̄ the conjugate of each coefficient, and so primitive where p is.
---   squaredLength-primitive      where p is primitive over pairs, |p|² is over whole numbers
+--   normPolynomial-primitive      where p is primitive over pairs, |p|² is over whole numbers
 use mathlib.Core.Path.{_≡_, refl, sym, ap, _∙_, fun-ext, subst}
 use mathlib.Core.List.{List, [], _∷_, map}
 use Prim.Native.Nat.{ℕ}
 use lib.IntN.{ℤ, pos, negℤ, _+ℤ_, _-ℤ_, _*ℤ_, zero-*ℤ, +ℤ-idr, negℤ-negℤ}
 use lib.ListN.{List·getD-map}
-use Rattle.whole.specs.Poly.{Coefficients, at, Divides, product}
+use Rattle.whole.specs.Coefficients.{Coefficients, at, Divides}
+use Rattle.poly.specs.Polynomials.{product}
 use Rattle.whole.specs.Number.{wholes}
 use Rattle.whole.proofs.Ring.{Ring}
 use Rattle.whole.proofs.Solver.{atoms, ring, read, read-none}
@@ -20,8 +21,8 @@ use Rattle.pair.specs.Pairs.{pair, pairs, times, conjugate}
 use Rattle.pair.proofs.Parts.{pair-equal}
 use Rattle.pair.proofs.Laws.{pairs-ring, number-times}
 use Rattle.divisor.proofs.Euclid.{pairs-bezout}
-use Rattle.curve.specs.Curves.{squaredLength}
-use Rattle.curve.proofs.Lengths.{re-of, im-of, re-conv, im-conv, at-squaredLength}
+use Rattle.curve.specs.Curves.{normPolynomial}
+use Rattle.curve.proofs.Norms.{re-of, im-of, re-conv, im-conv, at-normPolynomial}
 
 abbrev conjugated : List Pair → List Pair
 conjugated = map conjugate
@@ -40,12 +41,12 @@ module _ {A : Type 0} {C : Coefficients A} (R : Ring C) where
   conjugate-second : (a b : A) → a ⊗ R .negative b ⊕ b ⊗ a ≡ 𝟎
   conjugate-second a b = atoms R (a ∷ b ∷ []) (λ ρ e. simp (e 0, e 1, read-none R ρ, read) (ring R ρ _ _ tt))
 
-squaredLength-conjugate : (p : List Pair) (k : ℕ) → at pairs (product pairs p (conjugated p)) k ≡ pair (at wholes (squaredLength p) k) (pos 0)
-squaredLength-conjugate p k =
+normPolynomial-conjugate : (p : List Pair) (k : ℕ) → at pairs (product pairs p (conjugated p)) k ≡ pair (at wholes (normPolynomial p) k) (pos 0)
+normPolynomial-conjugate p k =
     at-product pairs-ring p (conjugated p) k
     ∙ ap (λ f. conv pairs (at pairs p) f k) (fun-ext (at-conjugated p))
     ∙ pair-equal
-    (re-conv f g k ∙ ap (λ h. h k) (conjugate-first (series-ring wholes-ring) (re-of f) (im-of f)) ∙ sym (at-squaredLength p k))
+    (re-conv f g k ∙ ap (λ h. h k) (conjugate-first (series-ring wholes-ring) (re-of f) (im-of f)) ∙ sym (at-normPolynomial p k))
     (im-conv f g k ∙ ap (λ h. h k) (conjugate-second (series-ring wholes-ring) (re-of f) (im-of f)))
   where
     f : Series Pair
@@ -77,15 +78,15 @@ conjugated-primitive p h d u x =
     each : Throughout pairs (conjugate d) (at pairs p)
     each k = subst (Divides pairs (conjugate d)) (ap conjugate (at-conjugated p k) ∙ conjugate-twice (at pairs p k)) (divides-conjugate (u k))
 
-pub squaredLength-primitive : (p : List Pair) → Primitive pairs p → Primitive wholes (squaredLength p)
-squaredLength-primitive p h d u =
+pub normPolynomial-primitive : (p : List Pair) → Primitive pairs p → Primitive wholes (normPolynomial p)
+normPolynomial-primitive p h d u =
     let v = primitive-product pairs-ring pairs-bezout p (conjugated p) h (conjugated-primitive p h) (pair d (pos 0)) each (pair (pos 1) (pos 0)) in
     unit-of-one wholes-ring (record { factor = v .factor .re; is = sym (first d (v .factor)) ∙ ap (λ z. z .re) (v .is) })
   where
     each : Throughout pairs (pair d (pos 0)) (at pairs (product pairs p (conjugated p)))
     each k = record {
       factor = pair (u k .factor) (pos 0);
-      is = sym (number-times d (u k .factor)) ∙ ap (λ x. pair x (pos 0)) (u k .is) ∙ sym (squaredLength-conjugate p k);
+      is = sym (number-times d (u k .factor)) ∙ ap (λ x. pair x (pos 0)) (u k .is) ∙ sym (normPolynomial-conjugate p k);
     }
 
     first : (d : ℤ) (v : Pair) → times (pair d (pos 0)) v .re ≡ d *ℤ v .re

@@ -1,7 +1,7 @@
 -- The content of a list of numbers within a bound.
 --   content-sized      it is positive, and within the bound
---   nine-each          what holds of nine numbers holds of every coefficient
---   nine-shared        nine exact quotients are the coefficients of the quotient
+--   octic-each          what holds of nine numbers holds of every coefficient
+--   octic-shared        nine exact quotients are the coefficients of the quotient
 use mathlib.Core.Path.{_≡_, refl, sym, ap, _∙_}
 use mathlib.Core.List.{List, []}
 use mathlib.Core.Logic.{_≢_, ⊎-elim}
@@ -9,14 +9,15 @@ use Prim.Native.Nat.{ℕ, zero, suc, _*_, _<_, _≤_, zero-le}
 use native.Mathlib.Nat.{le-refl, mul-le-mul, pos-of-ne-zero, mul-zero, zero-mul}
 use native.Mathlib.Omega.{arith}
 use lib.IntN.{ℤ, pos, natAbs, _*ℤ_}
-use Rattle.whole.specs.Poly.{at, Same, Greatest, scaled}
+use Rattle.whole.specs.Coefficients.{at, Greatest}
+use Rattle.poly.specs.Polynomials.{Same, scaled}
 use Rattle.whole.specs.Number.{wholes, Within}
 use Rattle.whole.proofs.Integers.{abs-times, abs-zero}
 use Rattle.poly.specs.Terms.{Top}
 use Rattle.poly.proofs.Top.{find-top}
 use Rattle.poly.proofs.Wholes.{whole-zero?}
-use Rattle.root.specs.declared.Nine.{Nine}
-use Rattle.root.specs.Roots.{nine, Sized}
+use Rattle.root.specs.declared.Octic.{Octic}
+use Rattle.root.specs.Promise.{octic, Sized}
 use Rattle.root.specs.Search.{Each}
 
 pub content-sized : {B : ℕ} (n : List ℤ) (g : ℕ) → Each wholes (Within B) n → (Same wholes n [] → ⊥) → Greatest wholes n (pos g) → (0 < g) × (g ≤ B)
@@ -40,29 +41,29 @@ content-sized {B} n g sized moves h = ⊎-elim (λ z. absurd (moves z)) (λ t. b
         g-some : g ≢ 0
         g-some z = some (sym same ∙ ap (λ (k : ℕ). k * x) z ∙ zero-mul x)
 
-pub nine-each : (r : Nine) → Sized (r .m0) → Sized (r .m1) → Sized (r .m2) → Sized (r .m3) → Sized (r .m4) → Sized (r .m5) → Sized (r .m6) → Sized (r .m7) → Sized (r .m8)
-    → Each wholes Sized (nine r)
-nine-each r a b c d e f g h i zero = a
-nine-each r a b c d e f g h i (suc zero) = b
-nine-each r a b c d e f g h i (suc (suc zero)) = c
-nine-each r a b c d e f g h i (suc (suc (suc zero))) = d
-nine-each r a b c d e f g h i (suc (suc (suc (suc zero)))) = e
-nine-each r a b c d e f g h i (suc (suc (suc (suc (suc zero))))) = f
-nine-each r a b c d e f g h i (suc (suc (suc (suc (suc (suc zero)))))) = g
-nine-each r a b c d e f g h i (suc (suc (suc (suc (suc (suc (suc zero))))))) = h
-nine-each r a b c d e f g h i (suc (suc (suc (suc (suc (suc (suc (suc zero)))))))) = i
-nine-each r a b c d e f g h i (suc (suc (suc (suc (suc (suc (suc (suc (suc k))))))))) = record { size = zero-le }
+pub octic-each : (r : Octic) → Sized (r .m0) → Sized (r .m1) → Sized (r .m2) → Sized (r .m3) → Sized (r .m4) → Sized (r .m5) → Sized (r .m6) → Sized (r .m7) → Sized (r .m8)
+    → Each wholes Sized (octic r)
+octic-each r a b c d e f g h i zero = a
+octic-each r a b c d e f g h i (suc zero) = b
+octic-each r a b c d e f g h i (suc (suc zero)) = c
+octic-each r a b c d e f g h i (suc (suc (suc zero))) = d
+octic-each r a b c d e f g h i (suc (suc (suc (suc zero)))) = e
+octic-each r a b c d e f g h i (suc (suc (suc (suc (suc zero))))) = f
+octic-each r a b c d e f g h i (suc (suc (suc (suc (suc (suc zero)))))) = g
+octic-each r a b c d e f g h i (suc (suc (suc (suc (suc (suc (suc zero))))))) = h
+octic-each r a b c d e f g h i (suc (suc (suc (suc (suc (suc (suc (suc zero)))))))) = i
+octic-each r a b c d e f g h i (suc (suc (suc (suc (suc (suc (suc (suc (suc k))))))))) = record { size = zero-le }
 
-pub nine-shared : (x : ℤ) (r n : Nine) → x *ℤ r .m0 ≡ n .m0 → x *ℤ r .m1 ≡ n .m1 → x *ℤ r .m2 ≡ n .m2 → x *ℤ r .m3 ≡ n .m3 → x *ℤ r .m4 ≡ n .m4
-    → x *ℤ r .m5 ≡ n .m5 → x *ℤ r .m6 ≡ n .m6 → x *ℤ r .m7 ≡ n .m7 → x *ℤ r .m8 ≡ n .m8 → Same wholes (scaled wholes x (nine r)) (nine n)
+pub octic-shared : (x : ℤ) (r n : Octic) → x *ℤ r .m0 ≡ n .m0 → x *ℤ r .m1 ≡ n .m1 → x *ℤ r .m2 ≡ n .m2 → x *ℤ r .m3 ≡ n .m3 → x *ℤ r .m4 ≡ n .m4
+    → x *ℤ r .m5 ≡ n .m5 → x *ℤ r .m6 ≡ n .m6 → x *ℤ r .m7 ≡ n .m7 → x *ℤ r .m8 ≡ n .m8 → Same wholes (scaled wholes x (octic r)) (octic n)
 unfolding scaled
-nine-shared x r n a b c d e f g h i zero = a
-nine-shared x r n a b c d e f g h i (suc zero) = b
-nine-shared x r n a b c d e f g h i (suc (suc zero)) = c
-nine-shared x r n a b c d e f g h i (suc (suc (suc zero))) = d
-nine-shared x r n a b c d e f g h i (suc (suc (suc (suc zero)))) = e
-nine-shared x r n a b c d e f g h i (suc (suc (suc (suc (suc zero))))) = f
-nine-shared x r n a b c d e f g h i (suc (suc (suc (suc (suc (suc zero)))))) = g
-nine-shared x r n a b c d e f g h i (suc (suc (suc (suc (suc (suc (suc zero))))))) = h
-nine-shared x r n a b c d e f g h i (suc (suc (suc (suc (suc (suc (suc (suc zero)))))))) = i
-nine-shared x r n a b c d e f g h i (suc (suc (suc (suc (suc (suc (suc (suc (suc k))))))))) = refl
+octic-shared x r n a b c d e f g h i zero = a
+octic-shared x r n a b c d e f g h i (suc zero) = b
+octic-shared x r n a b c d e f g h i (suc (suc zero)) = c
+octic-shared x r n a b c d e f g h i (suc (suc (suc zero))) = d
+octic-shared x r n a b c d e f g h i (suc (suc (suc (suc zero)))) = e
+octic-shared x r n a b c d e f g h i (suc (suc (suc (suc (suc zero))))) = f
+octic-shared x r n a b c d e f g h i (suc (suc (suc (suc (suc (suc zero)))))) = g
+octic-shared x r n a b c d e f g h i (suc (suc (suc (suc (suc (suc (suc zero))))))) = h
+octic-shared x r n a b c d e f g h i (suc (suc (suc (suc (suc (suc (suc (suc zero)))))))) = i
+octic-shared x r n a b c d e f g h i (suc (suc (suc (suc (suc (suc (suc (suc (suc k))))))))) = refl

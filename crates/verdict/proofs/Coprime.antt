@@ -5,7 +5,7 @@
 use mathlib.Core.Path.{_≡_, sym, subst}
 use mathlib.Core.List.{List}
 use lib.IntN.{pos, negsuc}
-use Rattle.whole.specs.Poly.{scaled}
+use Rattle.poly.specs.Polynomials.{scaled}
 use Rattle.poly.specs.Terms.{IsUnit, Primitive}
 use Rattle.poly.proofs.Content.{primitive-scaled}
 use Rattle.pair.specs.declared.Pair.{Pair}

@@ -1,63 +1,38 @@
--- D = κ w² of three legs: they are κ w(0)², κ w(0) w(1) and κ w(1)². Nothing is asked of κ and w.
---   cubic-generated-legs      so they are,
---   cubic-rule                and meet the rule
+-- D = κ w² of three legs: with w = x (1 − t) + y t they are κ x², κ x y and κ y².
+--   cubic-rule      so they meet the rule
 use mathlib.Core.Path.{refl, sym, ap₂, _∙_}
 use mathlib.Core.List.{List, [], _∷_}
-use Prim.Native.Nat.{zero, suc}
+use Prim.Native.Nat.{ℕ}
 use native.Mathlib.Omega.{arith}
-use Rattle.whole.specs.Poly.{at, Same, sum, scaled, product, square, choose}
-use Rattle.poly.proofs.Top.{length-above}
+use lib.IntN.{pos}
+use Rattle.poly.proofs.Series.{conv}
 use Rattle.pair.specs.declared.Pair.{Pair}
-use Rattle.pair.specs.Pairs.{pairs, plus, times}
-use Rattle.pair.proofs.PairSolver.{PairEx, the, _⊞_, _⊟_, _⊠_, _··_, nought, solve-pairs}
-use Rattle.curve.specs.Curves.{differences, powers, powerForm}
+use Rattle.pair.specs.Pairs.{times, multiple}
+use Rattle.pair.proofs.Laws.{multiple-cancel}
+use Rattle.pair.proofs.PairSolver.{PairEx, the, _⊠_, _··_, solve-pairs}
+use Rattle.bernstein.specs.Binomials.{choose}
+use Rattle.bernstein.specs.Powers.{powerForm}
+use Rattle.curve.proofs.SquaredLegs.{crossed-legs}
 use Rattle.verdict.specs.Verdicts.{Generated}
-use Rattle.curve.proofs.PowerForms.{powerForm-once}
 use Rattle.verdict.specs.Rules.{CubicRule}
-use Rattle.verdict.proofs.Shortened.{short-root}
+use Rattle.verdict.proofs.GeneratedLegs.{IsGenerated, generated-legs}
 
--- the legs of κ w², where w goes from x to y
-abbrev threeLegs : Pair → Pair → Pair → List Pair
-threeLegs κ x y = times κ (times x x) ∷ times κ (times x y) ∷ times κ (times y y) ∷ []
-
--- κ, x and y as expressions of the solver
-abbrev K : PairEx
-K = the 0
-
-abbrev X : PairEx
-X = the 1
-
-abbrev Y : PairEx
-Y = the 2
-
-threeLegs-are : (κ a b : Pair) → Same pairs (scaled pairs κ (square pairs (a ∷ b ∷ []))) (powerForm (threeLegs κ a (plus a b)))
-unfolding powerForm powers differences choose sum scaled product
-threeLegs-are κ a b zero = solve-pairs (κ ∷ a ∷ b ∷ []) (K ⊠ (X ⊠ X ⊞ nought)) (1 ·· (K ⊠ (X ⊠ X))) tt tt
-threeLegs-are κ a b (suc zero) = solve-pairs (κ ∷ a ∷ b ∷ []) (K ⊠ (X ⊠ Y ⊞ (Y ⊠ X ⊞ nought))) (2 ·· (K ⊠ (X ⊠ (X ⊞ Y)) ⊟ K ⊠ (X ⊠ X))) tt tt
-threeLegs-are κ a b (suc (suc zero)) =
-    solve-pairs (κ ∷ a ∷ b ∷ []) (K ⊠ (Y ⊠ Y))
-    (1 ·· ((K ⊠ ((X ⊞ Y) ⊠ (X ⊞ Y)) ⊟ K ⊠ (X ⊠ (X ⊞ Y))) ⊟ (K ⊠ (X ⊠ (X ⊞ Y)) ⊟ K ⊠ (X ⊠ X)))) tt tt
-threeLegs-are κ a b (suc (suc (suc k))) = refl
+-- over κ, x and y: C(2, k) times each leg
+abbrev L : ℕ → PairEx
+L k = the 0 ⊠ crossed-legs (the 1 ∷ the 2 ∷ []) k
 
 module _ (e0 e1 e2 : Pair) where
   abbrev legs : List Pair
   legs = e0 ∷ e1 ∷ e2 ∷ []
 
-  legs-rule : (κ x y : Pair) → Same pairs legs (threeLegs κ x y) → CubicRule e0 e1 e2
-  legs-rule κ x y h =
-      ap₂ times (h 1) (h 1)
-      ∙ solve-pairs (κ ∷ x ∷ y ∷ []) ((K ⊠ (X ⊠ Y)) ⊠ (K ⊠ (X ⊠ Y))) ((K ⊠ (X ⊠ X)) ⊠ (K ⊠ (Y ⊠ Y))) tt tt
-      ∙ ap₂ times (sym (h 0)) (sym (h 2))
+  legs-rule : (κ x y : Pair) → IsGenerated legs κ (x ∷ y ∷ []) → CubicRule e0 e1 e2
+  unfolding choose conv
+  legs-rule κ x y e = multiple-cancel 4 (omega arith)
+      (solve-pairs (e1 ∷ []) (4 ·· (the 0 ⊠ the 0)) (2 ·· the 0 ⊠ 2 ·· the 0) tt tt
+      ∙ ap₂ times (e 1 (omega arith)) (e 1 (omega arith))
+      ∙ solve-pairs (κ ∷ x ∷ y ∷ []) (L 1 ⊠ L 1) (4 ·· (L 0 ⊠ L 2)) tt tt
+      ∙ ap₂ (λ p q. multiple (pos 4) (times p q)) (sym (e 0 (omega arith))) (sym (e 2 (omega arith)))
+      ∙ solve-pairs (e0 ∷ e2 ∷ []) (4 ·· (1 ·· the 0 ⊠ 1 ·· the 1)) (4 ·· (the 0 ⊠ the 1)) tt tt)
 
-  module _ (κ : Pair) (w : List Pair) (h : Generated (powerForm legs) κ w) where
-    short : Generated (powerForm legs) κ (at pairs w 0 ∷ at pairs w 1 ∷ [])
-    unfolding powerForm powers differences
-    short = short-root (powerForm legs) 1 κ w (length-above pairs (powerForm legs) 2 (omega arith)) h
-
-    pub cubic-generated-legs : Same pairs legs (threeLegs κ (at pairs w 0) (plus (at pairs w 0) (at pairs w 1)))
-    cubic-generated-legs =
-        powerForm-once legs (threeLegs κ (at pairs w 0) (plus (at pairs w 0) (at pairs w 1))) refl
-        (λ k. short k ∙ threeLegs-are κ (at pairs w 0) (at pairs w 1) k)
-
-    pub cubic-rule : CubicRule e0 e1 e2
-    cubic-rule = legs-rule κ (at pairs w 0) (plus (at pairs w 0) (at pairs w 1)) cubic-generated-legs
+  pub cubic-rule : (κ : Pair) (w : List Pair) → Generated (powerForm legs) κ w → CubicRule e0 e1 e2
+  cubic-rule κ w h = let (x, e) = generated-legs legs 1 refl κ w h in legs-rule κ (x 0) (x 1) e

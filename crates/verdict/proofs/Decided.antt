@@ -10,7 +10,7 @@
 --   middle-within               m is at most 56,568 in size, by parts, where the ends are legs of a curve in range
 --   cubic-refused, quintic-refused              N is no c q² where the first two legs, or the last two, do not divide as they must
 --   first-refused, last-refused                 the same, for the legs of either kind
-use mathlib.Core.Path.{_≡_, sym, ap, ap₂, _∙_, subst}
+use mathlib.Core.Path.{_≡_, refl, sym, ap, ap₂, _∙_, subst}
 use mathlib.Core.List.{List, [], _∷_}
 use mathlib.Core.Logic.{_≢_, _↔_}
 use Prim.Native.Nat.{ℕ, suc, _+_, _*_, _≤_}
@@ -18,7 +18,7 @@ use native.Mathlib.Decide.{decLe}
 use native.Mathlib.Nat.{mul-le-mul}
 use native.Mathlib.Omega.{arith}
 use lib.IntN.{pos, natAbs, _*ℤ_}
-use Rattle.whole.specs.Poly.{Same, scaled, square}
+use Rattle.poly.specs.Polynomials.{Same, scaled, square}
 use Rattle.poly.proofs.Content.{content}
 use Rattle.poly.proofs.Divisibility.{unit-of-one}
 use Rattle.poly.proofs.Domain.{times-cancel}
@@ -26,16 +26,17 @@ use Rattle.pair.specs.declared.Pair.{Pair}
 use Rattle.pair.specs.Pairs.{pairs, plus, minus, times, multiple, norm, one, PartsWithin}
 use Rattle.pair.proofs.Laws.{pairs-ring, pairs-domain, norm-times, norm-size, root-le, pair-zero?}
 use Rattle.divisor.proofs.Euclid.{pairs-bezout}
+use Rattle.bernstein.specs.Powers.{powerForm}
 use Rattle.curve.specs.declared.Legs.{Legs}
 use Rattle.curve.specs.declared.Legs.the-variants.{Cubic, Quintic}
-use Rattle.curve.specs.Curves.{powerForm}
 use Rattle.curve.specs.Steps.{legsOf}
+use Rattle.curve.specs.Sizes.{legReach}
 use Rattle.verdict.specs.Verdicts.{NotSquared, Generated, NotGenerated, Coprime}
 use Rattle.verdict.proofs.Coprime.{primitive-coprime}
 use Rattle.verdict.specs.Rules.{EndDivides, CubicRule, QuinticRule}
-use Rattle.verdict.specs.Steps.{FirstEnd, LastEnd}
-use Rattle.verdict.proofs.Refused.{cubic-first, quintic-first}
-use Rattle.verdict.proofs.Reversed.{cubic-last, quintic-last}
+use Rattle.verdict.specs.Steps.{FirstEnd, LastEnd, middleSize}
+use Rattle.verdict.proofs.Refused.{first-divides}
+use Rattle.verdict.proofs.Reversed.{last-divides}
 use Rattle.verdict.proofs.ByRoot.{by-root}
 use Rattle.verdict.proofs.Cubics.{cubic-rule}
 use Rattle.verdict.proofs.Quintics.{quintic-rule, quintic-rule-end}
@@ -89,7 +90,7 @@ module _ (d0 d1 d2 d3 d4 : Pair) where
   quintic-not m n e h κ w g = h (quintic-only m κ w n e g)
 
   -- ---- the size of m: |m|⁴ = |d0|² |d4|²
-  pub middle-within : (m : Pair) → PartsWithin 40000 d0 → PartsWithin 40000 d4 → QuinticRule d0 d1 d2 d3 d4 m → PartsWithin 56568 m
+  pub middle-within : (m : Pair) → PartsWithin legReach d0 → PartsWithin legReach d4 → QuinticRule d0 d1 d2 d3 d4 m → PartsWithin middleSize m
   middle-within m h k r = record {
     re = record { size = part (natAbs (m .re)) (omega (arith, low)) };
     im = record { size = part (natAbs (m .im)) (omega (arith, low)) };
@@ -98,7 +99,7 @@ module _ (d0 d1 d2 d3 d4 : Pair) where
       size : Pair → ℕ
       size a = natAbs (a .re) * natAbs (a .re) + natAbs (a .im) * natAbs (a .im)
 
-      small : {a : Pair} → PartsWithin 40000 a → size a ≤ 3200000000
+      small : {a : Pair} → PartsWithin legReach a → size a ≤ 3200000000
       small l = omega (arith, mul-le-mul (l .re .size) (l .re .size), mul-le-mul (l .im .size) (l .im .size))
 
       sizes : size m * size m ≡ size d0 * size d4
@@ -109,10 +110,10 @@ module _ (d0 d1 d2 d3 d4 : Pair) where
       low : size m ≤ 3200000000
       low = root-le (size m) 3200000000 (omega (arith, sizes, mul-le-mul (small h) (small k)))
 
-      part : (x : ℕ) → x * x ≤ 3200000000 → x ≤ 56568
-      part x l = by (decLe x 56568)
+      part : (x : ℕ) → x * x ≤ 3200000000 → x ≤ middleSize
+      part x l = by (decLe x middleSize)
         where
-          by : Dec (x ≤ 56568) → x ≤ 56568
+          by : Dec (x ≤ middleSize) → x ≤ middleSize
           by (yes i) = i
           by (no i) = let j : 56569 ≤ x = omega arith in absurd (omega (arith, mul-le-mul j j))
 
@@ -130,10 +131,10 @@ module _ (d0 d1 d2 d3 d4 : Pair) where
 -- ---- the refusals
 
 pub cubic-refused : (d0 d1 d2 : Pair) → (EndDivides (pos 2) d0 d1 × EndDivides (pos 2) d2 d1 → ⊥) → NotSquared (powerForm (d0 ∷ d1 ∷ d2 ∷ []))
-cubic-refused d0 d1 d2 h c q p s = h (cubic-first d0 d1 d2 c q s, cubic-last d0 d1 d2 c q s)
+cubic-refused d0 d1 d2 h c q p s = let ds = d0 ∷ d1 ∷ d2 ∷ [] in h (first-divides ds (pos 2) refl c q s, last-divides ds c q p s (pos 2) refl)
 
 pub quintic-refused : (d0 d1 d2 d3 d4 : Pair) → (EndDivides (pos 8) d0 d1 × EndDivides (pos 8) d4 d3 → ⊥) → NotSquared (powerForm (d0 ∷ d1 ∷ d2 ∷ d3 ∷ d4 ∷ []))
-quintic-refused d0 d1 d2 d3 d4 h c q p s = h (quintic-first d0 d1 d2 d3 d4 c q s, quintic-last d0 d1 d2 d3 d4 c q s)
+quintic-refused d0 d1 d2 d3 d4 h c q p s = let ds = d0 ∷ d1 ∷ d2 ∷ d3 ∷ d4 ∷ [] in h (first-divides ds (pos 8) refl c q s, last-divides ds c q p s (pos 8) refl)
 
 pub first-refused : (l : Legs) → (FirstEnd l → ⊥) → NotSquared (powerForm (legsOf l))
 first-refused (Cubic d0 d1 d2) h = cubic-refused d0 d1 d2 (λ e. h (e .0))

@@ -6,7 +6,8 @@
 use mathlib.Core.Path.{_≡_, sym, ap, _∙_}
 use mathlib.Core.List.{List}
 use lib.IntN.{pos, negsuc}
-use Rattle.whole.specs.Poly.{at, scaled, square}
+use Rattle.whole.specs.Coefficients.{at}
+use Rattle.poly.specs.Polynomials.{scaled, square}
 use Rattle.whole.proofs.Ring.{minus-one}
 use Rattle.poly.proofs.Lists.{square-scaled}
 use Rattle.poly.proofs.Squares.{square-multiple}

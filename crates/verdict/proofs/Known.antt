@@ -1,5 +1,5 @@
 -- What is known of D on the way to its verdict, where D is that of a curve in range.
---   three-none, five-none     legs that are all 0
+--   five-none           five legs that are all 0
 --   scaled-three        a multiple of three coefficients
 --   generates-same      D = κ w² with a coprime w, however w is written
 --   holds-same          a verdict holds of a polynomial, however it is written
@@ -14,7 +14,8 @@ use Prim.Native.Nat.{ℕ, zero, suc}
 use native.Mathlib.Omega.{arith}
 use lib.IntN.{ℤ, pos}
 use lib.Signed.{_<ℤ_}
-use Rattle.whole.specs.Poly.{at, Same, Divides, scaled, square}
+use Rattle.whole.specs.Coefficients.{at, Divides}
+use Rattle.poly.specs.Polynomials.{Same, scaled, square}
 use Rattle.whole.specs.Number.{wholes}
 use Rattle.poly.proofs.Lists.{scaled-same, square-same as squares-same}
 use Rattle.poly.proofs.Content.{greatest-same, primitive-greatest}
@@ -24,12 +25,14 @@ use Rattle.pair.specs.Pairs.{pairs, times, PartsWithin, AllWithin}
 use Rattle.pair.proofs.Laws.{pairs-ring, pairs-domain}
 use Rattle.divisor.proofs.Divisors.{greatest-within}
 use Rattle.divisor.proofs.Euclid.{pairs-bezout}
-use Rattle.root.specs.Roots.{Sized, Small}
+use Rattle.root.specs.Promise.{Sized, Small}
 use Rattle.root.specs.Search.{Each}
-use Rattle.curve.specs.Curves.{differences, powerForm, legPolynomial, squaredLength}
+use Rattle.bernstein.specs.Powers.{powerForm}
+use Rattle.curve.specs.Curves.{legPolynomial, normPolynomial}
 use Rattle.curve.proofs.LegPolynomial.{legs-within}
-use Rattle.curve.proofs.Lengths.{squaredLength-same}
-use Rattle.curve.proofs.Sizes.{legPolynomial-within, squaredLength-within}
+use Rattle.curve.proofs.Norms.{normPolynomial-same}
+use Rattle.curve.proofs.Sizes.{legPolynomial-within, normPolynomial-within}
+use Rattle.curve.specs.Sizes.{legReach}
 use Rattle.verdict.specs.declared.Square.{Square}
 use Rattle.verdict.specs.declared.Verdict.{Verdict}
 use Rattle.verdict.specs.declared.Verdict.the-variants as verdict
@@ -38,12 +41,6 @@ use Rattle.verdict.specs.Steps.{OfCurve, OfLegs}
 use Rattle.verdict.proofs.Multiples.{generated-some}
 use Rattle.verdict.proofs.Coprime.{coprime-primitive}
 use Rattle.verdict.proofs.RootSizes.{root-within, preimage-within}
-
-pub three-none : {a b c : Pair} → a ≡ pairs .none → b ≡ pairs .none → c ≡ pairs .none → Same pairs (a ∷ b ∷ c ∷ []) []
-three-none x y z zero = x
-three-none x y z (suc zero) = y
-three-none x y z (suc (suc zero)) = z
-three-none x y z (suc (suc (suc k))) = refl
 
 pub five-none : {a b c d e : Pair} → Same pairs (a ∷ b ∷ c ∷ []) [] → d ≡ pairs .none → e ≡ pairs .none → Same pairs (a ∷ b ∷ c ∷ d ∷ e ∷ []) []
 five-none h y z zero = h 0
@@ -70,8 +67,8 @@ module _ (D E : List Pair) (e : Same pairs D E) where
   square-same : (s : Square) → SquareOf D s → SquareOf E s
   square-same s h = record {
     positive = h .positive;
-    squared = λ k. sym (squaredLength-same D E e k) ∙ h .squared k;
-    content = greatest-same (squaredLength-same D E e) (h .content);
+    squared = λ k. sym (normPolynomial-same D E e k) ∙ h .squared k;
+    content = greatest-same (normPolynomial-same D E e) (h .content);
     lead = h .lead;
   }
 
@@ -80,7 +77,7 @@ module _ (D E : List Pair) (e : Same pairs D E) where
 
   pub holds-same : (v : Verdict) → Holds D v → Holds E v
   holds-same verdict.Still h = λ k. sym (e k) ∙ h k
-  holds-same verdict.No h = (λ z. h .0 (still-back z), λ c q p s. h .1 c q p (λ k. squaredLength-same D E e k ∙ s k))
+  holds-same verdict.No h = (λ z. h .0 (still-back z), λ c q p s. h .1 c q p (λ k. normPolynomial-same D E e k ∙ s k))
   holds-same (verdict.Ph s) h = (λ z. h .0 (still-back z), square-same s (h .1), λ κ w g. h .2 κ w (λ k. e k ∙ g k))
   holds-same (verdict.Pre p) h = (
     λ z. h .0 (still-back z),
@@ -98,11 +95,11 @@ module _ (D : List Pair) (o : OfCurve D) where
   pub pairs-slight : (k : ℕ) → PartsWithin 1280000 (at pairs D k)
   pairs-slight k = rw (o .same k) (legPolynomial-within (o .points) (o .range) (o .short) k)
 
-  pub length-sized : Each wholes Sized (squaredLength D)
-  length-sized k = rw (squaredLength-same D (legPolynomial (o .points)) (o .same) k) (squaredLength-within (o .points) (o .range) (o .short) k)
+  pub length-sized : Each wholes Sized (normPolynomial D)
+  length-sized k = rw (normPolynomial-same D (legPolynomial (o .points)) (o .same) k) (normPolynomial-within (o .points) (o .range) (o .short) k)
 
   pub roots-small : (c : ℤ) (q : List ℤ) → pos 0 <ℤ c → Squared D c q → Each wholes Small q
-  roots-small c q p h = root-within (o .points) (o .range) (o .short) c q p (λ k. sym (squaredLength-same D (legPolynomial (o .points)) (o .same) k) ∙ h k)
+  roots-small c q p h = root-within (o .points) (o .range) (o .short) c q p (λ k. sym (normPolynomial-same D (legPolynomial (o .points)) (o .same) k) ∙ h k)
 
   pub generators-small : (Still D → ⊥) → (κ : Pair) (w : List Pair) → Generated D κ w → AllWithin 20000 w
   generators-small n κ w h k =
@@ -120,5 +117,5 @@ pub of-legs : (ds : List Pair) → OfLegs ds → OfCurve (powerForm ds)
 unfolding legPolynomial
 of-legs ds o = record { points = o .points; range = o .range; short = o .short; same = λ k. ap (λ (p : List Pair). at pairs (powerForm p) k) (o .legs) }
 
-pub legs-small : (ds : List Pair) → OfLegs ds → AllWithin 40000 ds
-legs-small ds o k = subst (λ (p : List Pair). PartsWithin 40000 (at pairs p k)) (sym (o .legs)) (legs-within (o .points) (o .range) k)
+pub legs-small : (ds : List Pair) → OfLegs ds → AllWithin legReach ds
+legs-small ds o k = subst (λ (p : List Pair). PartsWithin legReach (at pairs p k)) (sym (o .legs)) (legs-within (o .points) (o .range) k)

@@ -13,14 +13,16 @@ pub mod Once
 pub mod Refusals
 pub mod Moved
 pub mod Normal
-pub mod Cover
 pub mod FoundSizes
+pub mod Cover
+pub mod Degrees
 pub mod Turned
 pub mod Contents
 pub mod Rests
 pub mod Refused
 pub mod Reversed
 pub mod Shortened
+pub mod GeneratedLegs
 pub mod Cubics
 pub mod Quintics
 pub mod ByRoot

@@ -10,7 +10,8 @@ use mathlib.Core.Logic.{_≢_}
 use Prim.Native.Nat.{ℕ, _+_}
 use lib.IntN.{ℤ, pos, _*ℤ_}
 use lib.Signed.{_<ℤ_}
-use Rattle.whole.specs.Poly.{at, scaled, product, square}
+use Rattle.whole.specs.Coefficients.{at}
+use Rattle.poly.specs.Polynomials.{scaled, product, square}
 use Rattle.whole.specs.Number.{wholes}
 use Rattle.whole.proofs.Linear.{linear}
 use Rattle.whole.proofs.Wholes.{wholes-ring}
@@ -22,32 +23,32 @@ use Rattle.poly.proofs.Wholes.{whole-zero?, wholes-domain}
 use Rattle.pair.specs.declared.Pair.{Pair}
 use Rattle.pair.specs.Pairs.{pairs, norm}
 use Rattle.pair.proofs.Laws.{pairs-ring}
-use Rattle.curve.specs.Curves.{squaredLength}
-use Rattle.curve.proofs.Lengths.{squaredLength-same, squaredLength-product, squaredLength-above, squaredLength-zero, squaredLength-scaled, pairForm, squaredLength-form}
+use Rattle.curve.specs.Curves.{normPolynomial}
+use Rattle.curve.proofs.Norms.{normPolynomial-same, normPolynomial-product, normPolynomial-above, normPolynomial-zero, normPolynomial-scaled, pairForm, normPolynomial-form}
 use Rattle.verdict.specs.Verdicts.{Squared, NotSquared, Generated, Still}
 
 pub not-squared-moves : (D : List Pair) → NotSquared D → Still D → ⊥
 unfolding scaled product
-not-squared-moves D h z = h (pos 1) [] (omega linear) (squaredLength-zero D .0 z)
+not-squared-moves D h z = h (pos 1) [] (omega linear) (normPolynomial-zero D .0 z)
 
 -- ---- D = κ w²
 pub generated-some : (D : List Pair) (κ : Pair) (w : List Pair) → Generated D κ w → (Still D → ⊥) → κ ≢ pairs .none
 generated-some D κ w h n e = n (λ k. h k ∙ none-scaled pairs-ring κ (square pairs w) e k)
 
-pub generated-squared : (D : List Pair) (κ : Pair) (w : List Pair) → Generated D κ w → Squared D (norm κ) (squaredLength w)
+pub generated-squared : (D : List Pair) (κ : Pair) (w : List Pair) → Generated D κ w → Squared D (norm κ) (normPolynomial w)
 generated-squared D κ w h k =
-    squaredLength-same D (scaled pairs κ (square pairs w)) h k
-    ∙ squaredLength-scaled κ (square pairs w) k
-    ∙ scaled-same wholes-ring (norm κ) (squaredLength (square pairs w)) (square wholes (squaredLength w)) (squaredLength-product w w) k
+    normPolynomial-same D (scaled pairs κ (square pairs w)) h k
+    ∙ normPolynomial-scaled κ (square pairs w) k
+    ∙ scaled-same wholes-ring (norm κ) (normPolynomial (square pairs w)) (square wholes (normPolynomial w)) (normPolynomial-product w w) k
 
 -- ---- values
 module _ (D : List Pair) (n : ℕ) (c : ℤ) (q : List ℤ) (u : Above pairs (at pairs D) n) (p : pos 0 <ℤ c) (h : Squared D c q) where
   pub squared-above : Above wholes (at wholes q) n
-  squared-above = root-above wholes-ring wholes-domain whole-zero? (squaredLength D) q c n (λ z. omega linear) h (squaredLength-above D n u)
+  squared-above = root-above wholes-ring wholes-domain whole-zero? (normPolynomial D) q c n (λ z. omega linear) h (normPolynomial-above D n u)
 
   pub squared-form : (s v : ℤ) → norm (pairForm s v n D) ≡ c *ℤ (form wholes s v n (at wholes q) *ℤ form wholes s v n (at wholes q))
   squared-form s v =
-      sym (squaredLength-form s v D n u)
+      sym (normPolynomial-form s v D n u)
       ∙ ap (form wholes s v (n + n)) (fun-ext (λ k. h k ∙ at-scaled wholes-ring c (square wholes q) k ∙ ap (λ x. c *ℤ x) (at-product wholes-ring q q k)))
       ∙ form-times wholes-ring s v (n + n) c _
       ∙ ap (λ x. c *ℤ x) (form-product wholes-ring s v n n (at wholes q) (at wholes q) squared-above squared-above)

@@ -6,7 +6,8 @@ use mathlib.Core.List.{List, []}
 use mathlib.Core.Logic.{_⊎_, inl, inr, ⊎-elim}
 use lib.IntN.{ℤ, pos, negsuc, negℤ}
 use lib.Signed.{_<ℤ_}
-use Rattle.whole.specs.Poly.{at, Same, Greatest, scaled, square}
+use Rattle.whole.specs.Coefficients.{at, Greatest}
+use Rattle.poly.specs.Polynomials.{Same, scaled, square}
 use Rattle.whole.specs.Number.{wholes, FirstPositive}
 use Rattle.whole.proofs.Wholes.{wholes-ring}
 use Rattle.poly.specs.Terms.{Above}
@@ -22,10 +23,10 @@ use Rattle.divisor.proofs.Euclid.{pairs-bezout}
 use Rattle.divisor.proofs.Roots.{first-some, first-found}
 use Rattle.root.specs.declared.Quartic.{Quartic}
 use Rattle.verdict.specs.declared.Quadratic.{Quadratic}
-use Rattle.root.specs.Roots.{quartic, LeadPositive}
+use Rattle.root.specs.Promise.{quartic, LeadPositive}
 use Rattle.root.proofs.Leads.{lead-same}
-use Rattle.curve.specs.Curves.{squaredLength}
-use Rattle.curve.proofs.Lengths.{squaredLength-zero}
+use Rattle.curve.specs.Curves.{normPolynomial}
+use Rattle.curve.proofs.Norms.{normPolynomial-zero}
 use Rattle.verdict.specs.declared.Square.{Square}
 use Rattle.verdict.specs.declared.Preimage.{Preimage}
 use Rattle.verdict.specs.Verdicts.{Still, Squared, Generated, Coprime, SquareOf, PreimageOf, quadratic, LeadKept}
@@ -56,14 +57,14 @@ squared-opposite D c q h k =
     (λ j. sym (square-opposite wholes-ring q j)) k
 
 -- c, and q with the sign of its lead, make the normalised square
-square-made : (D : List Pair) (c : ℤ) (q : List ℤ) → Above pairs (at pairs D) 4 → pos 0 <ℤ c → Greatest wholes (squaredLength D) c → Squared D c q
+square-made : (D : List Pair) (c : ℤ) (q : List ℤ) → Above pairs (at pairs D) 4 → pos 0 <ℤ c → Greatest wholes (normPolynomial D) c → Squared D c q
     → LeadPositive q → (s : Square) × SquareOf D s
 square-made D c q a h g e l =
     let same = quartic-same q (squared-above D 4 c q a h e) in (
       record { c = c; q = as-quartic q },
       record {
         positive = h;
-        squared = root-same wholes-ring (squaredLength D) q (quartic (as-quartic q)) c same e;
+        squared = root-same wholes-ring (normPolynomial D) q (quartic (as-quartic q)) c same e;
         content = g;
         lead = lead-same same l;
       },
@@ -74,10 +75,10 @@ pub square-found : (D : List Pair) (c : ℤ) (q : List ℤ) → Above pairs (at 
 square-found D c q a n h e = made (positive-content N N-some)
   where
     N : List ℤ
-    N = squaredLength D
+    N = normPolynomial D
 
     N-some : Same wholes N [] → ⊥
-    N-some z = n (squaredLength-zero D .1 z)
+    N-some z = n (normPolynomial-zero D .1 z)
 
     signed : (d : ℤ) (r : List ℤ) → pos 0 <ℤ d → Greatest wholes N d → Squared D d r → (s : Square) × SquareOf D s
     signed d r i g f =

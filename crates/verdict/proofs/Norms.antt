@@ -7,7 +7,8 @@ use mathlib.Core.List.{List}
 use mathlib.Core.Logic.{_≢_}
 use Prim.Native.Nat.{ℕ}
 use lib.IntN.{_*ℤ_}
-use Rattle.whole.specs.Poly.{Same, Greatest, scaled, square}
+use Rattle.poly.specs.Polynomials.{Same, scaled, square}
+use Rattle.whole.specs.Coefficients.{Greatest}
 use Rattle.whole.specs.Number.{wholes}
 use Rattle.whole.proofs.Integers.{*ℤ-1}
 use Rattle.whole.proofs.Wholes.{wholes-ring}
@@ -23,28 +24,28 @@ use Rattle.pair.proofs.Laws.{pairs-ring, pairs-domain, norm-times, norm-zero, n
 use Rattle.divisor.proofs.Euclid.{pairs-bezout}
 use Rattle.divisor.proofs.Units.{unit-norm}
 use Rattle.root.specs.declared.Quartic.{Quartic}
-use Rattle.root.specs.Roots.{quartic}
+use Rattle.root.specs.Promise.{quartic}
 use Rattle.root.proofs.Leads.{lead-same}
-use Rattle.curve.specs.Curves.{squaredLength}
+use Rattle.curve.specs.Curves.{normPolynomial}
 use Rattle.verdict.specs.Verdicts.{Still, Generated, SquareOf}
 use Rattle.verdict.proofs.Multiples.{generated-squared}
-use Rattle.verdict.proofs.Conjugates.{squaredLength-primitive}
-use Rattle.verdict.proofs.Signs.{squaredLength-lead-positive}
+use Rattle.verdict.proofs.Conjugates.{normPolynomial-primitive}
+use Rattle.verdict.proofs.Signs.{normPolynomial-lead-positive}
 
 pub generated-content : (D : List Pair) (κ : Pair) (w : List Pair) → κ ≢ pairs .none → Primitive pairs w → Generated D κ w
-    → Greatest wholes (squaredLength D) (norm κ)
+    → Greatest wholes (normPolynomial D) (norm κ)
 generated-content D κ w n h e =
-    primitive-greatest wholes-ring wholes-bezout wholes-domain (squaredLength D) (square wholes (squaredLength w)) (norm κ) (λ z. n (norm-zero κ z))
-    (primitive-product wholes-ring wholes-bezout (squaredLength w) (squaredLength w) (squaredLength-primitive w h) (squaredLength-primitive w h))
+    primitive-greatest wholes-ring wholes-bezout wholes-domain (normPolynomial D) (square wholes (normPolynomial w)) (norm κ) (λ z. n (norm-zero κ z))
+    (primitive-product wholes-ring wholes-bezout (normPolynomial w) (normPolynomial w) (normPolynomial-primitive w h) (normPolynomial-primitive w h))
     (λ k. sym (generated-squared D κ w e k))
 
 pub generated-square-of : (D : List Pair) (κ : Pair) (w : List Pair) (q : Quartic) {L : ℕ} → κ ≢ pairs .none → Primitive pairs w → Top pairs w L → Generated D κ w
-    → Same wholes (quartic q) (squaredLength w) → SquareOf D (record { c = norm κ; q = q })
+    → Same wholes (quartic q) (normPolynomial w) → SquareOf D (record { c = norm κ; q = q })
 generated-square-of D κ w q n h l e s = record {
   positive = norm-some κ n;
-  squared = λ k. generated-squared D κ w e k ∙ sym (scaled-same wholes-ring (norm κ) (square wholes (quartic q)) (square wholes (squaredLength w)) (square-same wholes-ring (quartic q) (squaredLength w) s) k);
+  squared = λ k. generated-squared D κ w e k ∙ sym (scaled-same wholes-ring (norm κ) (square wholes (quartic q)) (square wholes (normPolynomial w)) (square-same wholes-ring (quartic q) (normPolynomial w) s) k);
   content = generated-content D κ w n h e;
-  lead = lead-same (λ k. sym (s k)) (squaredLength-lead-positive l);
+  lead = lead-same (λ k. sym (s k)) (normPolynomial-lead-positive l);
 }
 
 -- D = κ w² with w primitive

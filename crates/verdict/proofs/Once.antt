@@ -14,7 +14,8 @@ use lib.IntN.{ℤ, pos, negsuc}
 use lib.Signed.{_<ℤ_}
 use Rattle.refusal.specs.Answers.{Answer, refused, given}
 use Rattle.refusal.proofs.Answers.{refuse-once, first-or-once}
-use Rattle.whole.specs.Poly.{at, Same, scaled, square}
+use Rattle.whole.specs.Coefficients.{at}
+use Rattle.poly.specs.Polynomials.{Same, scaled, square}
 use Rattle.whole.specs.Number.{wholes, FirstPositive}
 use Rattle.whole.proofs.Linear.{linear}
 use Rattle.whole.proofs.Ring.{minus-one}
@@ -31,10 +32,10 @@ use Rattle.pair.proofs.Laws.{pairs-ring, pairs-domain, norm-nonneg}
 use Rattle.divisor.proofs.Euclid.{pairs-bezout}
 use Rattle.divisor.proofs.Roots.{not-both, first-some}
 use Rattle.divisor.proofs.Units.{no-imaginary-square}
-use Rattle.root.specs.Roots.{quartic}
+use Rattle.root.specs.Promise.{quartic}
 use Rattle.root.proofs.Once.{quartic-same}
 use Rattle.root.proofs.Leads.{positive-lead-once}
-use Rattle.curve.specs.Curves.{squaredLength, legPolynomial}
+use Rattle.curve.specs.Curves.{normPolynomial, legPolynomial}
 use Rattle.curve.specs.Promise.{out-of-range}
 use Rattle.verdict.specs.declared.Quadratic.{Quadratic}
 use Rattle.verdict.specs.declared.Square.{Square}
@@ -48,7 +49,7 @@ use Rattle.verdict.specs.Promise.{answerOfVerdict, answerOfPreimage, pre
 use Rattle.verdict.proofs.Coprime.{by-unit, coprime-primitive}
 use Rattle.verdict.proofs.Multiples.{generated-squared}
 use Rattle.verdict.proofs.Norms.{generated-content}
-use Rattle.verdict.proofs.Signs.{first-top, squaredLength-lead-positive, kept-lead-once}
+use Rattle.verdict.proofs.Signs.{first-top, normPolynomial-lead-positive, kept-lead-once}
 
 -- ---- c and q
 positive-some : {c : ℤ} → pos 0 <ℤ c → c ≢ pos 0
@@ -102,7 +103,7 @@ generators-agree D κ κ′ w w′ e e′ h h′ f f′ l l′ =
     leads u some = leads-agree pairs-ring pairs-domain w w′ u some (first-top l) (first-top l′)
 
 pub preimage-norms : (D : List Pair) (p : Preimage) → PreimageOf D p
-    → (p .square .c ≡ norm (p .kappa)) × Same wholes (quartic (p .square .q)) (squaredLength (quadratic (p .w)))
+    → (p .square .c ≡ norm (p .kappa)) × Same wholes (quartic (p .square .q)) (normPolynomial (quadratic (p .w)))
 preimage-norms D p h = (c, q)
   where
     s : SquareOf D (p .square)
@@ -116,14 +117,14 @@ preimage-norms D p h = (c, q)
         content-once (omega (linear, s .positive)) (norm-nonneg (p .kappa)) (s .content)
         (generated-content D (p .kappa) w (first-some (h .factor)) (coprime-primitive w (h .coprime)) (h .generated))
 
-    q : Same wholes (quartic (p .square .q)) (squaredLength w)
+    q : Same wholes (quartic (p .square .q)) (normPolynomial w)
     q =
-        positive-lead-once (quartic (p .square .q)) (squaredLength w) (s .lead) (squaredLength-lead-positive (first-top (h .lead)))
-        (scaled-squares-agree wholes-ring wholes-domain (p .square .c) (quartic (p .square .q)) (squaredLength w) (positive-some (s .positive))
+        positive-lead-once (quartic (p .square .q)) (normPolynomial w) (s .lead) (normPolynomial-lead-positive (first-top (h .lead)))
+        (scaled-squares-agree wholes-ring wholes-domain (p .square .c) (quartic (p .square .q)) (normPolynomial w) (positive-some (s .positive))
         (λ j.
         sym (s .squared j)
         ∙ generated-squared D (p .kappa) w (h .generated) j
-        ∙ ap (λ x. at wholes (scaled wholes x (square wholes (squaredLength w))) j) (sym c)))
+        ∙ ap (λ x. at wholes (scaled wholes x (square wholes (normPolynomial w))) j) (sym c)))
 
 pub preimage-once : (D : List Pair) (p p′ : Preimage) → PreimageOf D p → PreimageOf D p′ → p ≡ p′
 preimage-once D p p′ h k =

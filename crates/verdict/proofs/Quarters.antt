@@ -1,5 +1,8 @@
 -- Values of a polynomial at the quarters of the way from 0 to 1 bound its coefficients.
 --   quarter n f v         4ⁿ f(v / 4)
+--   weighted, weight      a sum with weights; their sizes added up.      weighted-size   how large the sum is
+--   sumOf, quarterOf      the same, and the values at the quarters, as expressions of the solver.      eval-weighted   what they are
+--   greatest              the greatest of finitely many numbers has what each of them has
 --   quartic-root-size     degree 4: where c (4⁴ f)² is at most B at the five quarters, 9 c fₖ² is at most 16 B
 --   quadratic-size        degree 2: where 4² f is at most M in size there, 2 fₖ is at most M in size
 -- A coefficient is a sum of the values with fixed weights: the solver checks the weights, and their sizes add up to the bound.
@@ -12,7 +15,7 @@ use native.Mathlib.Omega.{arith}
 use lib.Dec.{T}
 use lib.IntN.{ℤ, pos, negsuc, natAbs, _+ℤ_, _*ℤ_}
 use lib.ListN.{length}
-use Rattle.whole.specs.Poly.{Coefficients}
+use Rattle.whole.specs.Coefficients.{Coefficients}
 use Rattle.whole.specs.Number.{wholes, Within}
 use Rattle.whole.proofs.Integers.{abs-times}
 use Rattle.whole.proofs.Solver.{Ex, var, lit, lit⁻, plus, times, _:*_, same?, nth, eval, solve}
@@ -27,15 +30,15 @@ quarter n f v = form wholes (pos 4) (pos v) n f
 
 -- ---- sums with weights
 module _ {A : Type 0} (C : Coefficients A) where
-  abbrev weighted : List A → Series A → A
+  abbrev pub weighted : List A → Series A → A
   weighted [] f = C .none
   weighted (w ∷ ws) f = C .plus (C .times w (f zero)) (weighted ws (tail f))
 
-abbrev weight : List ℤ → ℕ
+abbrev pub weight : List ℤ → ℕ
 weight [] = 0
 weight (w ∷ ws) = natAbs w + weight ws
 
-weighted-size : {f : Series ℤ} {M : ℕ} (ws : List ℤ) → ((i : ℕ) → i < length ws → Within M (f i)) → natAbs (weighted wholes ws f) ≤ weight ws * M
+pub weighted-size : {f : Series ℤ} {M : ℕ} (ws : List ℤ) → ((i : ℕ) → i < length ws → Within M (f i)) → natAbs (weighted wholes ws f) ≤ weight ws * M
 weighted-size [] h = zero-le
 weighted-size {f} (w ∷ ws) h = omega (
   arith,
@@ -53,10 +56,10 @@ abbrev literal : ℤ → Ex
 literal (pos n) = lit n
 literal (negsuc n) = lit⁻ n
 
-abbrev sumOf : List ℤ → Series Ex → Ex
+abbrev pub sumOf : List ℤ → Series Ex → Ex
 sumOf ws = weighted expressions (map literal ws)
 
-abbrev quarterOf : ℕ → Series Ex
+abbrev pub quarterOf : ℕ → Series Ex
 quarterOf n v = form expressions (lit 4) (lit v) n var
 
 module _ (ρ : List ℤ) where
@@ -64,7 +67,7 @@ module _ (ρ : List ℤ) where
   eval-literal (pos n) = refl
   eval-literal (negsuc n) = refl
 
-  eval-weighted : (ws : List ℤ) (F : Series Ex) → eval wholes-ring ρ (sumOf ws F) ≡ weighted wholes ws (λ i. eval wholes-ring ρ (F i))
+  pub eval-weighted : (ws : List ℤ) (F : Series Ex) → eval wholes-ring ρ (sumOf ws F) ≡ weighted wholes ws (λ i. eval wholes-ring ρ (F i))
   eval-weighted [] F = refl
   eval-weighted (w ∷ ws) F = ap₂ (λ x y. x *ℤ eval wholes-ring ρ (F zero) +ℤ y) (eval-literal w) (eval-weighted ws (tail F))
 
@@ -103,7 +106,7 @@ module _ (f : Series ℤ) {M : ℕ} where
       by (suc (suc (suc k))) = rw (u (suc (suc (suc k))) (omega arith)) zero-le
 
 -- ---- the greatest of finitely many numbers has what each of them has
-greatest : (P : ℕ → Type 0) → P 0 → (n : ℕ) (g : ℕ → ℕ) → ((i : ℕ) → i < n → P (g i)) → (M : ℕ) × ((i : ℕ) → i < n → g i ≤ M) × P M
+pub greatest : (P : ℕ → Type 0) → P 0 → (n : ℕ) (g : ℕ → ℕ) → ((i : ℕ) → i < n → P (g i)) → (M : ℕ) × ((i : ℕ) → i < n → g i ≤ M) × P M
 greatest P p zero g h = (0, λ i l. absurd (omega arith), p)
 greatest P p (suc n) g h = let (M, most, q) = greatest P p n (tail g) (λ i l. h (suc i) (omega arith)) in by M most q (decLe (g zero) M)
   where

@@ -10,7 +10,7 @@ use Rattle.refusal.specs.declared.Refusal.the-variants as R
 use Rattle.refusal.specs.Table.{First, numberOf}
 use Rattle.refusal.proofs.Laws.{number-some, first-none, first-kept}
 use Rattle.pair.specs.declared.Pair.{Pair}
-use Rattle.root.specs.Roots.{quartic}
+use Rattle.root.specs.Promise.{quartic}
 use Rattle.curve.specs.Curves.{InRange, legPolynomial}
 use Rattle.curve.specs.Promise.{out-of-range}
 use Rattle.verdict.specs.declared.Verdict.{Verdict}

@@ -2,17 +2,13 @@
 --   rest-of-multiple     what is left of a n is what is left of n times what is left of a
 --   divides-by-rest      a whole number divides another just where nothing is left of its size
 --   square-size          the size of n x²
---   equal-tells          what a test of two numbers tells
-use mathlib.Core.Path.{_≡_, refl, sym, ap, _∙_}
-use mathlib.Core.Bool.{Bool, true, false}
+use mathlib.Core.Path.{_≡_, sym, ap, _∙_}
 use mathlib.Core.Logic.{_↔_}
 use Prim.Native.Nat.{ℕ, _+_, _*_, _/_, _%_}
 use native.Mathlib.Nat.{div-add-mod, mul-add-mod-self-left, add-mul, mul-assoc}
-use borrow.Author.Tests.{eqb-true, eqb-false}
-use lib.Dec.{eqb}
 use lib.IntN.{ℤ, pos, natAbs, _*ℤ_}
-use Rattle.whole.specs.Poly.{Divides}
-use Rattle.whole.specs.Number.{wholes, Tells}
+use Rattle.whole.specs.Coefficients.{Divides}
+use Rattle.whole.specs.Number.{wholes}
 use Rattle.whole.proofs.Integers.{abs-times, abs-zero}
 use Rattle.whole.proofs.Division.{abs-rest, rest-zero, zero-rest}
 
@@ -30,10 +26,3 @@ divides-by-rest d x = (
 
 pub square-size : (x : ℤ) (n : ℕ) → natAbs (x *ℤ x *ℤ pos n) ≡ natAbs x * natAbs x * n
 square-size x n = abs-times (x *ℤ x) (pos n) ∙ ap (λ (k : ℕ). k * n) (abs-times x x)
-
-pub equal-tells : (a b : ℕ) → Tells (a ≡ b) (eqb a b)
-equal-tells a b = by (eqb a b) refl
-  where
-    by : (r : Bool) → eqb a b ≡ r → Tells (a ≡ b) r
-    by true e = eqb-true a b e
-    by false e = eqb-false a b e

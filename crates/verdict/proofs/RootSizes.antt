@@ -1,6 +1,7 @@
 -- The sizes of q and w, for a curve in range of at most six points, by the values of D at the quarters of the way.
 --   positive-size              a positive number is at least 1
 --   root-fourth                N = c q²: q has no power above the fourth,
+--   root-value-size            √c q is at most √2 · 40,000 at the quarters,
 --   root-size                  no coefficient of √c q reaches 20,000,000,
 --   root-within                and none of q is larger
 --   preimage-second            D = κ w², and not 0: w has no power above the second,
@@ -14,19 +15,24 @@ use native.Mathlib.Omega.{arith}
 use lib.IntN.{ℤ, pos, natAbs, _*ℤ_}
 use lib.ListN.{length}
 use lib.Signed.{_<ℤ_}
-use Rattle.whole.specs.Poly.{at}
+use Rattle.whole.specs.Coefficients.{at}
 use Rattle.whole.specs.Number.{wholes, Within}
 use Rattle.whole.proofs.Integers.{abs-times}
 use Rattle.whole.proofs.Linear.{linear, abs-parts}
+use Rattle.whole.proofs.Wholes.{wholes-ring}
 use Rattle.poly.specs.Terms.{Above}
 use Rattle.poly.proofs.Top.{root-above}
-use Rattle.poly.proofs.Blends.{form-within}
 use Rattle.pair.specs.declared.Pair.{Pair}
 use Rattle.pair.specs.Pairs.{pairs, norm, PartsWithin}
 use Rattle.pair.proofs.Laws.{pairs-ring, pairs-domain, root-le, norm-size, norm-some, pair-zero?}
-use Rattle.curve.specs.Curves.{InRange, differences, legPolynomial, squaredLength}
-use Rattle.curve.proofs.Lengths.{re-of, im-of, re-above, im-above, pairForm, squaredLength-form}
-use Rattle.curve.proofs.LegPolynomial.{Part, re-part, im-part, legPolynomial-part, legPolynomial-fourth, legs-within}
+use Rattle.root.specs.Promise.{rootSize}
+use Rattle.curve.specs.Curves.{InRange, legPolynomial, normPolynomial}
+use Rattle.bernstein.specs.Powers.{differences}
+use Rattle.bernstein.proofs.InPowers.{form-within}
+use Rattle.bernstein.proofs.PowerForms.{Linear, re-part, im-part}
+use Rattle.curve.proofs.Norms.{re-of, im-of, re-above, im-above, pairForm, normPolynomial-form}
+use Rattle.curve.proofs.LegPolynomial.{legPolynomial-part, legPolynomial-fourth, legs-within}
+use Rattle.curve.specs.Sizes.{legReach}
 use Rattle.verdict.specs.Verdicts.{Squared, Generated, Still}
 use Rattle.verdict.proofs.Multiples.{generated-some, generated-squared, squared-above, squared-form}
 use Rattle.verdict.proofs.Quarters.{quarter, quartic-root-size, quadratic-size}
@@ -60,7 +66,7 @@ norm-root c z a p h e = record {
 
 module _ (ps : List Pair) (r : InRange ps) (l : length ps ≤ 6) where
   -- ---- D at the quarters
-  module _ {part : Pair → ℤ} (P : Part part) (h : (i : ℕ) → Within 40000 (part (at pairs (differences ps) i))) where
+  module _ {part : Pair → ℤ} (P : Linear wholes-ring part) (h : (i : ℕ) → Within legReach (part (at pairs (differences ps) i))) where
     -- 4⁴ D(v / 4) is made of the legs with weights that add up to 4⁴
     part-quarter : (v : ℕ) → v < 5 → Within 10240000 (quarter 4 (λ k. part (at pairs (legPolynomial ps) k)) v)
     part-quarter v j =
@@ -77,7 +83,7 @@ module _ (ps : List Pair) (r : InRange ps) (l : length ps ≤ 6) where
     root-fourth = squared-above (legPolynomial ps) 4 c q (legPolynomial-fourth ps l) p h
 
     -- c (4⁴ q)² is at most 2 (4⁴ · 40,000)² at the quarters
-    root-value-size : (v : ℕ) → v < 5 → natAbs c * (natAbs (quarter 4 (at wholes q) v) * natAbs (quarter 4 (at wholes q) v)) ≤ 209715200000000
+    pub root-value-size : (v : ℕ) → v < 5 → natAbs c * (natAbs (quarter 4 (at wholes q) v) * natAbs (quarter 4 (at wholes q) v)) ≤ 209715200000000
     root-value-size v j =
         norm-most c (pairForm (pos 4) (pos v) 4 (legPolynomial ps)) (quarter 4 (at wholes q) v)
         (squared-form (legPolynomial ps) 4 c q (legPolynomial-fourth ps l) p h (pos 4) (pos v))
@@ -86,14 +92,14 @@ module _ (ps : List Pair) (r : InRange ps) (l : length ps ≤ 6) where
     pub root-size : (k : ℕ) → natAbs c * (natAbs (at wholes q k) * natAbs (at wholes q k)) < 400000000000000
     root-size k = omega (arith, quartic-root-size (at wholes q) (natAbs c) 209715200000000 root-fourth root-value-size k)
 
-    pub root-within : (k : ℕ) → Within 20000000 (at wholes q k)
+    pub root-within : (k : ℕ) → Within rootSize (at wholes q k)
     root-within k =
         let x = natAbs (at wholes q k) in
-        record { size = root-le x 20000000 (omega (arith, root-size k, mul-le-mul (positive-size p) (le-refl (x * x)))) }
+        record { size = root-le x rootSize (omega (arith, root-size k, mul-le-mul (positive-size p) (le-refl (x * x)))) }
 
   -- ---- w
   module _ (κ : Pair) (w : List Pair) (some : Still (legPolynomial ps) → ⊥) (h : Generated (legPolynomial ps) κ w) where
-    squared : Squared (legPolynomial ps) (norm κ) (squaredLength w)
+    squared : Squared (legPolynomial ps) (norm κ) (normPolynomial w)
     squared = generated-squared (legPolynomial ps) κ w h
 
     κ-some : κ ≢ pairs .none
@@ -107,10 +113,10 @@ module _ (ps : List Pair) (r : InRange ps) (l : length ps ≤ 6) where
 
     preimage-quarter : (v : ℕ) → v < 5 → PartsWithin 3806 (pairForm (pos 4) (pos v) 2 w)
     preimage-quarter v j =
-        norm-root (natAbs (norm κ)) (quarter 4 (at wholes (squaredLength w)) v) (pairForm (pos 4) (pos v) 2 w)
+        norm-root (natAbs (norm κ)) (quarter 4 (at wholes (normPolynomial w)) v) (pairForm (pos 4) (pos v) 2 w)
         (positive-size positive)
-        (root-value-size (norm κ) (squaredLength w) positive squared v j)
-        (squaredLength-form (pos 4) (pos v) w 2 preimage-second)
+        (root-value-size (norm κ) (normPolynomial w) positive squared v j)
+        (normPolynomial-form (pos 4) (pos v) w 2 preimage-second)
 
     pub preimage-within : (k : ℕ) → PartsWithin 2000 (at pairs w k)
     preimage-within k = record {

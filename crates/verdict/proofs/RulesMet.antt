@@ -4,40 +4,45 @@
 --   greatest-three                       such a divisor of three, by two steps
 --   first-divisor                        which is not 0, the first leg not being 0
 --   cubic-preimage, quintic-preimage     so v divided by it is a w
---   cubic-preimage-end                   E = e2 t² where e0 is 0
---   quintic-preimage-end                 D = t² E where d0 and d1 are 0, with E of 6 d2, 2 d3 and d4: D = κ (t u)² where E = κ u²
-use mathlib.Core.Path.{_≡_, refl, sym, ap, ap₂, _∙_, subst}
+--   end-preimage                         D = t² E where d0 and d1 are 0: D = κ (t u)² where E = κ u²,
+--   cubic-preimage-end                   as e2 t² where e0 is 0,
+--   quintic-preimage-end                 and with E of 6 d2, 2 d3 and d4
+use mathlib.Core.Path.{_≡_, refl, sym, ap, _∙_, subst}
 use mathlib.Core.List.{List, [], _∷_}
 use mathlib.Core.Logic.{_≢_, ⊎-elim}
-use Prim.Native.Nat.{zero, suc}
+use Prim.Native.Nat.{ℕ, zero, suc, _-_, _≤_}
+use native.Mathlib.Omega.{arith}
 use lib.IntN.{pos}
-use Rattle.whole.specs.Poly.{at, Same, Divides, Greatest, sum, scaled, product, square, choose}
+use lib.ListN.{length}
+use Rattle.whole.specs.Coefficients.{at, Divides, Greatest}
+use Rattle.poly.specs.Polynomials.{Same, sum, scaled, product, square}
 use Rattle.whole.proofs.Divisor.{Common, common-two, divides-none, divides-plus, divides-negative, divides-trans}
 use Rattle.whole.proofs.Ring.{times-none, none-times}
-use Rattle.whole.proofs.Solver.{lit}
 use Rattle.poly.proofs.Lists.{at-scaled, scaled-same, square-same}
 use Rattle.poly.proofs.Shift.{square-shift}
 use Rattle.pair.specs.declared.Pair.{Pair}
 use Rattle.pair.specs.Pairs.{pairs, plus, minus, negative, times, multiple, one}
-use Rattle.pair.proofs.Laws.{pairs-ring, pairs-domain}
-use Rattle.pair.proofs.PairSolver.{PairEx, the, _⊞_, _⊟_, _⊠_, _··_, nought, solve-pairs}
+use Rattle.pair.proofs.Laws.{pairs-ring, pairs-domain, times-one, multiple-one}
+use Rattle.pair.proofs.PairSolver.{the, _⊞_, _⊟_, _⊠_, _··_, solve-pairs}
 use Rattle.divisor.proofs.Divisors.{greatest-zero}
-use Rattle.curve.specs.Curves.{differences, powers, powerForm}
+use Rattle.bernstein.specs.Binomials.{choose}
+use Rattle.bernstein.specs.Powers.{differences, kthDifferences, powerForm}
+use Rattle.bernstein.proofs.PowerForms.{times-part, powerForm-map}
+use Rattle.bernstein.proofs.Products.{times-choose, powerForm-lowered}
 use Rattle.verdict.specs.Verdicts.{Generated}
 use Rattle.curve.proofs.SquaredLegs.{cubic-legs, tripledLegs, quintic-legs}
 use Rattle.verdict.specs.Rules.{CubicRule, QuinticRule, lineRoot, parabolaRoot, ByDivisor}
-use Rattle.curve.proofs.PowerForms.{powerForm-scaled}
 use Rattle.verdict.proofs.ByRoot.{root-preimage}
 
 -- ---- v² = d0 D
 line-same : (e0 e1 : Pair) → Same pairs (lineRoot e0 e1) (powerForm (e0 ∷ e1 ∷ []))
-unfolding powerForm powers differences choose
+unfolding powerForm kthDifferences differences choose
 line-same e0 e1 zero = solve-pairs (e0 ∷ e1 ∷ []) (the 0) (1 ·· the 0) tt tt
 line-same e0 e1 (suc zero) = solve-pairs (e0 ∷ e1 ∷ []) (the 1 ⊟ the 0) (1 ·· (the 1 ⊟ the 0)) tt tt
 line-same e0 e1 (suc (suc k)) = refl
 
 parabola-same : (d0 d1 m : Pair) → Same pairs (parabolaRoot d0 d1 m) (powerForm (d0 ∷ d1 ∷ m ∷ []))
-unfolding powerForm powers differences choose
+unfolding powerForm kthDifferences differences choose
 parabola-same d0 d1 m zero = solve-pairs (d0 ∷ []) (the 0) (1 ·· the 0) tt tt
 parabola-same d0 d1 m (suc zero) = refl
 parabola-same d0 d1 m (suc (suc zero)) =
@@ -50,7 +55,8 @@ cubic-root e0 e1 e2 r k =
     square-same pairs-ring (lineRoot e0 e1) (powerForm (e0 ∷ e1 ∷ [])) (line-same e0 e1) k
     ∙ sym (cubic-legs e0 e1 k)
     ∙ ap (λ x. at pairs (powerForm (times e0 e0 ∷ times e0 e1 ∷ x ∷ [])) k) r
-    ∙ ap (λ (p : List Pair). at pairs p k) (powerForm-scaled e0 (e0 ∷ e1 ∷ e2 ∷ []))
+    ∙ powerForm-map (times-part e0) (e0 ∷ e1 ∷ e2 ∷ []) k
+    ∙ sym (at-scaled pairs-ring e0 (powerForm (e0 ∷ e1 ∷ e2 ∷ [])) k)
 
 pub quintic-root : (d0 d1 d2 d3 d4 m : Pair) → QuinticRule d0 d1 d2 d3 d4 m
     → Same pairs (square pairs (parabolaRoot d0 d1 m)) (scaled pairs d0 (powerForm (d0 ∷ d1 ∷ d2 ∷ d3 ∷ d4 ∷ [])))
@@ -58,7 +64,8 @@ unfolding scaled
 quintic-root d0 d1 d2 d3 d4 m r k =
     square-same pairs-ring (parabolaRoot d0 d1 m) (powerForm (d0 ∷ d1 ∷ m ∷ [])) (parabola-same d0 d1 m) k
     ∙ sym (quintic-legs d0 d1 m (times d0 d0) (times d0 d1) (times d0 d2) (times d0 d3) (times d0 d4) .1 tripled k)
-    ∙ ap (λ (p : List Pair). at pairs p k) (powerForm-scaled d0 (d0 ∷ d1 ∷ d2 ∷ d3 ∷ d4 ∷ []))
+    ∙ powerForm-map (times-part d0) (d0 ∷ d1 ∷ d2 ∷ d3 ∷ d4 ∷ []) k
+    ∙ sym (at-scaled pairs-ring d0 (powerForm (d0 ∷ d1 ∷ d2 ∷ d3 ∷ d4 ∷ [])) k)
   where
     three : Pair → Pair
     three = multiple (pos 3)
@@ -141,40 +148,7 @@ pub quintic-preimage : (d0 d1 d2 d3 d4 m e : Pair) (w : List Pair) → d0 ≢ pa
 quintic-preimage d0 d1 d2 d3 d4 m e w n r g f =
     root-preimage (powerForm (d0 ∷ d1 ∷ d2 ∷ d3 ∷ d4 ∷ [])) (parabolaRoot d0 d1 m) d0 e n (first-divisor n g) (quintic-root d0 d1 d2 d3 d4 m r) (quintic-divisor d0 d1 m g) w f
 
--- ---- a first leg that is 0
--- 1, as an expression of the solver
-abbrev unit : PairEx
-unit = record { re = lit 1; im = lit 0 }
-
--- e2 t²
-end-square : (e2 : Pair) → Generated (powerForm (pairs .none ∷ pairs .none ∷ e2 ∷ [])) e2 (pairs .none ∷ one ∷ [])
-unfolding powerForm powers differences choose sum scaled product
-end-square e2 zero = solve-pairs (e2 ∷ []) nought (the 0 ⊠ nought) tt tt
-end-square e2 (suc zero) = solve-pairs (e2 ∷ []) nought (the 0 ⊠ nought) tt tt
-end-square e2 (suc (suc zero)) = solve-pairs (e2 ∷ []) (1 ·· ((the 0 ⊟ nought) ⊟ nought)) (the 0 ⊠ unit) tt tt
-end-square e2 (suc (suc (suc k))) = refl
-
-pub cubic-preimage-end : (e0 e1 e2 : Pair) → e0 ≡ pairs .none → CubicRule e0 e1 e2 → Generated (powerForm (e0 ∷ e1 ∷ e2 ∷ [])) e2 (pairs .none ∷ one ∷ [])
-cubic-preimage-end e0 e1 e2 z r k = ap₂ (λ x y. at pairs (powerForm (x ∷ y ∷ e2 ∷ [])) k) z second-none ∙ end-square e2 k
-  where
-    second-none : e1 ≡ pairs .none
-    second-none = ⊎-elim (λ e. e) (λ e. e) (pairs-domain .splits e1 e1 (r ∙ ap (λ x. times x e2) z ∙ none-times pairs-ring e2))
-
--- D = t² E
-lowered : (d2 d3 d4 : Pair) → Same pairs (powerForm (pairs .none ∷ pairs .none ∷ d2 ∷ d3 ∷ d4 ∷ []))
-    (pairs .none ∷ pairs .none ∷ powerForm (multiple (pos 6) d2 ∷ multiple (pos 2) d3 ∷ d4 ∷ []))
-unfolding powerForm powers differences choose
-lowered d2 d3 d4 zero = refl
-lowered d2 d3 d4 (suc zero) = refl
-lowered d2 d3 d4 (suc (suc zero)) = solve-pairs (d2 ∷ []) (6 ·· ((the 0 ⊟ nought) ⊟ nought)) (1 ·· (6 ·· the 0)) tt tt
-lowered d2 d3 d4 (suc (suc (suc zero))) =
-    solve-pairs (d2 ∷ d3 ∷ []) (4 ·· (((the 1 ⊟ the 0) ⊟ (the 0 ⊟ nought)) ⊟ ((the 0 ⊟ nought) ⊟ nought))) (2 ·· (2 ·· the 1 ⊟ 6 ·· the 0)) tt tt
-lowered d2 d3 d4 (suc (suc (suc (suc zero)))) =
-    solve-pairs (d2 ∷ d3 ∷ d4 ∷ [])
-    (1 ·· ((((the 2 ⊟ the 1) ⊟ (the 1 ⊟ the 0)) ⊟ ((the 1 ⊟ the 0) ⊟ (the 0 ⊟ nought))) ⊟ (((the 1 ⊟ the 0) ⊟ (the 0 ⊟ nought)) ⊟ ((the 0 ⊟ nought) ⊟ nought))))
-    (1 ·· ((the 2 ⊟ 2 ·· the 1) ⊟ (2 ·· the 1 ⊟ 6 ·· the 0))) tt tt
-lowered d2 d3 d4 (suc (suc (suc (suc (suc k))))) = refl
-
+-- ---- a first leg that is 0: the second is too, and D = t² E
 -- E = κ u² gives t² E = κ (t u)²
 raised : (E : List Pair) (κ : Pair) (u : List Pair) → Generated E κ u → Generated (pairs .none ∷ pairs .none ∷ E) κ (pairs .none ∷ u)
 raised E κ u h k = shifted k ∙ sym (scaled-same pairs-ring κ (square pairs (pairs .none ∷ u)) (pairs .none ∷ pairs .none ∷ square pairs u) (square-shift pairs-ring u) k)
@@ -184,9 +158,33 @@ raised E κ u h k = shifted k ∙ sym (scaled-same pairs-ring κ (square pairs (
     shifted (suc zero) = sym (at-scaled pairs-ring κ (pairs .none ∷ pairs .none ∷ square pairs u) 1 ∙ times-none pairs-ring κ)
     shifted (suc (suc k)) = h k ∙ at-scaled pairs-ring κ (square pairs u) k ∙ sym (at-scaled pairs-ring κ (pairs .none ∷ pairs .none ∷ square pairs u) (suc (suc k)))
 
+end-preimage : (ds es : List Pair) → length ds - 1 ≡ suc (suc (length es - 1)) → at pairs ds 0 ≡ pairs .none → at pairs ds 1 ≡ pairs .none
+    → ((k : ℕ) → k ≤ length es - 1 → times-choose es k ≡ times-choose ds (suc (suc k)))
+    → (κ : Pair) (u : List Pair) → Generated (powerForm es) κ u → Generated (powerForm ds) κ (pairs .none ∷ u)
+end-preimage ds es l y z e κ u h k = powerForm-lowered ds es l y z e k ∙ raised (powerForm es) κ u h k
+
+pub cubic-preimage-end : (e0 e1 e2 : Pair) → e0 ≡ pairs .none → CubicRule e0 e1 e2 → Generated (powerForm (e0 ∷ e1 ∷ e2 ∷ [])) e2 (pairs .none ∷ one ∷ [])
+unfolding powerForm kthDifferences choose sum scaled product
+cubic-preimage-end e0 e1 e2 z r = end-preimage (e0 ∷ e1 ∷ e2 ∷ []) (e2 ∷ []) refl z second-none weights e2 (one ∷ []) alone
+  where
+    second-none : e1 ≡ pairs .none
+    second-none = ⊎-elim (λ e. e) (λ e. e) (pairs-domain .splits e1 e1 (r ∙ ap (λ x. times x e2) z ∙ none-times pairs-ring e2))
+
+    weights : (k : ℕ) → k ≤ 0 → times-choose (e2 ∷ []) k ≡ times-choose (e0 ∷ e1 ∷ e2 ∷ []) (suc (suc k))
+    weights zero l = refl
+    weights (suc k) l = absurd (omega arith)
+
+    alone : Generated (powerForm (e2 ∷ [])) e2 (one ∷ [])
+    alone zero = multiple-one e2 ∙ sym (times-one e2)
+    alone (suc k) = refl
+
 pub quintic-preimage-end : (d0 d1 d2 d3 d4 κ : Pair) (u : List Pair) → d0 ≡ pairs .none → d1 ≡ pairs .none
     → Generated (powerForm (multiple (pos 6) d2 ∷ multiple (pos 2) d3 ∷ d4 ∷ [])) κ u → Generated (powerForm (d0 ∷ d1 ∷ d2 ∷ d3 ∷ d4 ∷ [])) κ (pairs .none ∷ u)
-quintic-preimage-end d0 d1 d2 d3 d4 κ u y z h k =
-    ap₂ (λ a b. at pairs (powerForm (a ∷ b ∷ d2 ∷ d3 ∷ d4 ∷ [])) k) y z
-    ∙ lowered d2 d3 d4 k
-    ∙ raised (powerForm (multiple (pos 6) d2 ∷ multiple (pos 2) d3 ∷ d4 ∷ [])) κ u h k
+unfolding choose
+quintic-preimage-end d0 d1 d2 d3 d4 κ u y z = end-preimage (d0 ∷ d1 ∷ d2 ∷ d3 ∷ d4 ∷ []) (multiple (pos 6) d2 ∷ multiple (pos 2) d3 ∷ d4 ∷ []) refl y z weights κ u
+  where
+    weights : (k : ℕ) → k ≤ 2 → times-choose (multiple (pos 6) d2 ∷ multiple (pos 2) d3 ∷ d4 ∷ []) k ≡ times-choose (d0 ∷ d1 ∷ d2 ∷ d3 ∷ d4 ∷ []) (suc (suc k))
+    weights zero l = multiple-one (multiple (pos 6) d2)
+    weights (suc zero) l = solve-pairs (d3 ∷ []) (2 ·· (2 ·· the 0)) (4 ·· the 0) tt tt
+    weights (suc (suc zero)) l = refl
+    weights (suc (suc (suc k))) l = absurd (omega arith)

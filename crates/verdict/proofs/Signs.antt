@@ -1,7 +1,7 @@
 -- The sign rules: of a polynomial and its negative they keep one.
 --   kept-none, kept-lead-once   0 keeps no sign, and of w and −w one does
 --   first-top                   the highest power that the sign rule for pairs speaks of
---   squaredLength-lead-positive   N has a positive lead
+--   normPolynomial-lead-positive   N has a positive lead
 --   lead-found                  a polynomial other than 0, or its negative, has a positive lead
 --   lead-first-found            the same for pairs
 use mathlib.Core.Path.{sym, ap, _∙_, subst}
@@ -10,7 +10,8 @@ use mathlib.Core.Logic.{_⊎_, inl, inr}
 use Prim.Native.Nat.{ℕ, _+_}
 use lib.IntN.{ℤ, pos, negsuc, negℤ}
 use lib.Signed.{_≤ℤ_, _<ℤ_}
-use Rattle.whole.specs.Poly.{at, Same, scaled}
+use Rattle.whole.specs.Coefficients.{at}
+use Rattle.poly.specs.Polynomials.{Same, scaled}
 use Rattle.whole.specs.Number.{wholes, FirstPositive}
 use Rattle.whole.proofs.Order.{compare}
 use Rattle.whole.proofs.Wholes.{wholes-ring}
@@ -22,11 +23,11 @@ use Rattle.pair.specs.declared.Pair.{Pair}
 use Rattle.pair.specs.Pairs.{pair, pairs, negative}
 use Rattle.pair.proofs.Laws.{pairs-ring, norm-some}
 use Rattle.divisor.proofs.Roots.{first-found, not-both}
-use Rattle.root.specs.Roots.{LeadPositive}
+use Rattle.root.specs.Promise.{LeadPositive}
 use Rattle.verdict.specs.Verdicts.{Kept, LeadKept}
 use Rattle.root.proofs.Leads.{lead-top, lead-once}
-use Rattle.curve.specs.Curves.{squaredLength}
-use Rattle.curve.proofs.Lengths.{squaredLength-lead, squaredLength-above}
+use Rattle.curve.specs.Curves.{normPolynomial}
+use Rattle.curve.proofs.Norms.{normPolynomial-lead, normPolynomial-above}
 
 pub kept-none : Kept (pairs .none) → ⊥
 kept-none (inl h) = h .lt
@@ -63,9 +64,9 @@ lead-first-found w m t = by (first-found (at pairs w m) (t .lead))
     })
 
 -- ---- N
-pub squaredLength-lead-positive : {D : List Pair} {L : ℕ} → Top pairs D L → LeadPositive (squaredLength D)
-squaredLength-lead-positive {D} {L} t = record {
+pub normPolynomial-lead-positive : {D : List Pair} {L : ℕ} → Top pairs D L → LeadPositive (normPolynomial D)
+normPolynomial-lead-positive {D} {L} t = record {
   power = L + L;
-  positive = rw (squaredLength-lead D L (t .above)) (norm-some (at pairs D L) (t .lead));
-  above = squaredLength-above D L (t .above);
+  positive = rw (normPolynomial-lead D L (t .above)) (norm-some (at pairs D L) (t .lead));
+  above = normPolynomial-above D L (t .above);
 }

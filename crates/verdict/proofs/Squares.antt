@@ -5,7 +5,8 @@ use mathlib.Core.Path.{sym, _∙_}
 use mathlib.Core.List.{List}
 use lib.IntN.{ℤ, pos}
 use lib.Signed.{_<ℤ_}
-use Rattle.whole.specs.Poly.{Same, Greatest, scaled, square}
+use Rattle.poly.specs.Polynomials.{Same, scaled, square}
+use Rattle.whole.specs.Coefficients.{Greatest}
 use Rattle.whole.specs.Number.{wholes}
 use Rattle.whole.proofs.Wholes.{wholes-ring}
 use Rattle.poly.proofs.Lists.{scaled-same}
@@ -14,12 +15,12 @@ use Rattle.pair.specs.declared.Pair.{Pair}
 use Rattle.root.specs.declared.Quartic.{Quartic}
 use Rattle.root.specs.Search.{Each}
 use Rattle.root.specs.declared.WholeRoot.the-variants.{Root}
-use Rattle.root.specs.Roots.{quartic, IsWholeRoot, Small}
-use Rattle.curve.specs.Curves.{squaredLength}
+use Rattle.root.specs.Promise.{quartic, IsWholeRoot, Small}
+use Rattle.curve.specs.Curves.{normPolynomial}
 use Rattle.verdict.specs.Verdicts.{Squared, NotSquared, SquareOf}
 
-module _ (D : List Pair) (c : ℤ) (M : List ℤ) (h : pos 0 <ℤ c) (g : Greatest wholes (squaredLength D) c)
-    (e : Same wholes (scaled wholes c M) (squaredLength D)) where
+module _ (D : List Pair) (c : ℤ) (M : List ℤ) (h : pos 0 <ℤ c) (g : Greatest wholes (normPolynomial D) c)
+    (e : Same wholes (scaled wholes c M) (normPolynomial D)) where
   root-squared : (q : List ℤ) → Same wholes (square wholes q) M → Squared D c q
   root-squared q i k = sym (e k) ∙ sym (scaled-same wholes-ring c (square wholes q) M i k)
 

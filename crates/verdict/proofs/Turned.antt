@@ -10,7 +10,8 @@ use mathlib.Core.List.{List, []}
 use mathlib.Core.Logic.{_≢_, ⊎-elim}
 use Prim.Native.Nat.{ℕ}
 use lib.IntN.{pos, negsuc}
-use Rattle.whole.specs.Poly.{at, Same, scaled, square}
+use Rattle.whole.specs.Coefficients.{at}
+use Rattle.poly.specs.Polynomials.{Same, scaled, square}
 use Rattle.whole.specs.Number.{FirstPositive}
 use Rattle.whole.proofs.Linear.{linear}
 use Rattle.poly.specs.Terms.{Top}

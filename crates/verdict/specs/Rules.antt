@@ -1,5 +1,4 @@
 -- The rules by which the legs of a curve tell its verdict.
---   cross                        the cross product of two pairs
 --   EndDivides n d e             |d|² divides n (d × e)², d being a leg at an end and e the one beside it
 --   CubicRule e0 e1 e2           e0, e1, e2 are the Bernstein coefficients of some κ u²
 --   QuinticRule d0 .. d4 m       where d0 is not 0, so are d0 .. d4 of some κ w², and m = κ w(0) w(1) shows it
@@ -7,15 +6,12 @@
 --   ByDivisor D d e w            w is coprime, d divides e², and D = κ w² for κ = e² / d
 use mathlib.Core.Path.{_≡_}
 use mathlib.Core.List.{List, [], _∷_}
-use lib.IntN.{ℤ, pos, _-ℤ_, _*ℤ_}
-use Rattle.whole.specs.Poly.{Divides}
+use lib.IntN.{ℤ, pos, _*ℤ_}
+use Rattle.whole.specs.Coefficients.{Divides}
 use Rattle.whole.specs.Number.{wholes}
 use Rattle.pair.specs.declared.Pair.{Pair}
-use Rattle.pair.specs.Pairs.{pairs, plus, minus, times, multiple, norm}
+use Rattle.pair.specs.Pairs.{pairs, plus, minus, times, multiple, norm, cross}
 use Rattle.verdict.specs.Verdicts.{Generated, Coprime}
-
-abbrev pub cross : Pair → Pair → ℤ
-cross a b = a .re *ℤ b .im -ℤ a .im *ℤ b .re
 
 abbrev pub EndDivides : ℤ → Pair → Pair → Type 0
 EndDivides n d e = Divides wholes (norm d) (cross d e *ℤ cross d e *ℤ n)

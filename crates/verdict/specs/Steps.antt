@@ -6,6 +6,7 @@
 --   Over e d v1 v2 s           w is d + v1 t + v2 t² divided by e, and d κ is e²
 --   Generates D s              D = κ w² with a coprime w
 --   IsGeneration, IsLine       such κ and w, or that D is no κ w²; the same, where w has no second power
+--   middleSize                 56,568, which no part of an m exceeds that meets the quintic rule
 --   IsMiddle                   the only m that may meet the quintic rule, or that none does
 --   MeetsRule, ByMiddle        m meets it with some legs; κ and w for all legs with which it does
 --   Signed w v                 v is w or −w, with the sign of the rule
@@ -17,13 +18,16 @@ use Prim.Native.Nat.{ℕ, _^_, _≤_}
 use lib.IntN.{pos}
 use lib.ListN.{length}
 use Rattle.whole.specs.Number.{FirstPositive}
-use Rattle.whole.specs.Poly.{Same, scaled, Divides}
+use Rattle.poly.specs.Polynomials.{Same, scaled}
+use Rattle.whole.specs.Coefficients.{Divides}
 use Rattle.poly.specs.Terms.{Top}
 use Rattle.pair.specs.declared.Pair.{Pair}
 use Rattle.pair.specs.Pairs.{pairs, times, minus, multiple, norm, one, PartsWithin}
+use Rattle.bernstein.specs.Powers.{differences, powerForm}
 use Rattle.curve.specs.declared.Legs.{Legs}
 use Rattle.curve.specs.declared.Legs.the-variants.{Cubic, Quintic}
-use Rattle.curve.specs.Curves.{InRange, differences, powerForm, legPolynomial}
+use Rattle.curve.specs.Curves.{InRange, legPolynomial}
+use Rattle.curve.specs.Sizes.{legReach}
 use Rattle.verdict.specs.declared.Highest.{Highest}
 use Rattle.verdict.specs.declared.Highest.the-variants.{Power, Zero}
 use Rattle.verdict.specs.declared.rules.Generator.{Generator}
@@ -86,9 +90,12 @@ abbrev pub IsLine : List Pair → Generation → Type 0
 IsLine D (generation.Found s) = Generates D s × (s .w .b2 ≡ pairs .none)
 IsLine D generation.None = NotGenerated D
 
+abbrev pub middleSize : ℕ
+middleSize = 56568
+
 abbrev pub IsMiddle : Pair → Pair → Pair → Middle → Type 0
-IsMiddle d0 d1 d2 (middle.Found m) = (times d0 m ≡ minus (multiple (pos 3) (times d0 d2)) (multiple (pos 2) (times d1 d1))) × PartsWithin 56568 m
-IsMiddle d0 d1 d2 middle.None = (d3 d4 m : Pair) → PartsWithin 40000 d4 → QuinticRule d0 d1 d2 d3 d4 m → ⊥
+IsMiddle d0 d1 d2 (middle.Found m) = (times d0 m ≡ minus (multiple (pos 3) (times d0 d2)) (multiple (pos 2) (times d1 d1))) × PartsWithin middleSize m
+IsMiddle d0 d1 d2 middle.None = (d3 d4 m : Pair) → PartsWithin legReach d4 → QuinticRule d0 d1 d2 d3 d4 m → ⊥
 
 abbrev pub MeetsRule : Pair → Pair → Pair → Type 0
 MeetsRule d0 d1 m = (d2 : Pair) × (d3 : Pair) × (d4 : Pair) × QuinticRule d0 d1 d2 d3 d4 m

@@ -12,13 +12,14 @@ use mathlib.Core.List.{List, [], _∷_}
 use Prim.Native.Nat.{ℕ}
 use lib.IntN.{ℤ, pos}
 use lib.Signed.{_<ℤ_}
-use Rattle.whole.specs.Poly.{at, Same, scaled, square, Divides, Greatest}
+use Rattle.whole.specs.Coefficients.{at, Divides, Greatest}
+use Rattle.poly.specs.Polynomials.{Same, scaled, square}
 use Rattle.whole.specs.Number.{wholes, FirstPositive}
 use Rattle.pair.specs.declared.Pair.{Pair}
 use Rattle.pair.specs.Pairs.{norm, pairs}
-use Rattle.root.specs.Roots.{quartic, LeadPositive}
+use Rattle.root.specs.Promise.{quartic, LeadPositive}
 use Rattle.root.specs.Search.{Lead}
-use Rattle.curve.specs.Curves.{squaredLength}
+use Rattle.curve.specs.Curves.{normPolynomial}
 use Rattle.verdict.specs.declared.Quadratic.{Quadratic}
 use Rattle.verdict.specs.declared.Square.{Square}
 use Rattle.verdict.specs.declared.Preimage.{Preimage}
@@ -37,7 +38,7 @@ LeadKept = Lead pairs Kept
 
 -- N = c q², with whole numbers
 abbrev pub Squared : List Pair → ℤ → List ℤ → Type 0
-Squared D c q = Same wholes (squaredLength D) (scaled wholes c (square wholes q))
+Squared D c q = Same wholes (normPolynomial D) (scaled wholes c (square wholes q))
 
 -- D = κ w², with pairs
 abbrev pub Generated : List Pair → Pair → List Pair → Type 0
@@ -59,7 +60,7 @@ Coprime w = (d : Pair) → ((k : ℕ) → Divides pairs d (at pairs w k)) → no
 pub record SquareOf (D : List Pair) (s : Square) : Type 0 where
   pub positive : pos 0 <ℤ s .c
   pub squared : Squared D (s .c) (quartic (s .q))
-  pub content : Greatest wholes (squaredLength D) (s .c)
+  pub content : Greatest wholes (normPolynomial D) (s .c)
   pub lead : LeadPositive (quartic (s .q))
 
 pub record PreimageOf (D : List Pair) (p : Preimage) : Type 0 where

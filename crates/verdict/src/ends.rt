@@ -2,6 +2,7 @@
 // the square of its cross product with the next.
 use curve::Legs;
 use pair::Pair;
+use pair::cross;
 use pair::is_zero;
 use pair::norm;
 use whole::size;
@@ -12,20 +13,9 @@ ghost use lib.IntN.{pos};
 ghost use Rattle.whole.specs.Number.{Tells};
 ghost use Rattle.pair.specs.Pairs.{pairs, PartsWithin, AllWithin};
 ghost use Rattle.curve.specs.Steps.{legsOf};
-ghost use Rattle.verdict.specs.Rules.{cross, EndDivides};
+ghost use Rattle.curve.specs.Sizes.{legReach};
+ghost use Rattle.verdict.specs.Rules.{EndDivides};
 ghost use Rattle.verdict.specs.Steps.{FirstEnd, LastEnd};
-
-// d × e
-fn cross(d: Pair, e: Pair) -> i64
-    requires { ⌜ PartsWithin 40000 d × PartsWithin 40000 e ⌝ }
-    ensures { λ r. ⌜ r ≡ cross d e ⌝ }
-{
-    let x = d.re;
-    let y = d.im;
-    let u = e.re;
-    let v = e.im;
-    x * v - y * u
-}
 
 // Whether d divides n times the square of x, by remainders: by one, unless n x^2 might not fit.
 fn divides_square(d: u64, x: u64, n: u64) -> bool
@@ -40,7 +30,7 @@ fn divides_square(d: u64, x: u64, n: u64) -> bool
 
 // Whether |d|^2 divides n (d × e)^2.
 fn end_divides(d: Pair, e: Pair, n: u64) -> bool
-    requires { ⌜ PartsWithin 40000 d × PartsWithin 40000 e × (n ≤ 8) ⌝ }
+    requires { ⌜ PartsWithin legReach d × PartsWithin legReach e × (n ≤ 8) ⌝ }
     ensures { λ r. ⌜ Tells (EndDivides (pos n) d e) r ⌝ }
 {
     if is_zero(d) {
@@ -51,7 +41,7 @@ fn end_divides(d: Pair, e: Pair, n: u64) -> bool
 
 // Whether it is so at the first leg.
 pub(crate) fn first_end(legs: Legs) -> bool
-    requires { ⌜ AllWithin 40000 (legsOf legs) ⌝ }
+    requires { ⌜ AllWithin legReach (legsOf legs) ⌝ }
     ensures { λ r. ⌜ Tells (FirstEnd legs) r ⌝ }
 {
     match legs {
@@ -62,7 +52,7 @@ pub(crate) fn first_end(legs: Legs) -> bool
 
 // Whether it is so at the last.
 pub(crate) fn last_end(legs: Legs) -> bool
-    requires { ⌜ AllWithin 40000 (legsOf legs) ⌝ }
+    requires { ⌜ AllWithin legReach (legsOf legs) ⌝ }
     ensures { λ r. ⌜ Tells (LastEnd legs) r ⌝ }
 {
     match legs {

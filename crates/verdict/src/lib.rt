@@ -13,6 +13,7 @@ use ends::first_end;
 use ends::last_end;
 use pair::Pair;
 use pair::is_zero;
+use pair::three_are_zero;
 use preimages::generated;
 use refusal::Refusal;
 use root::Quartic;
@@ -21,11 +22,12 @@ pub use roots::reals;
 use roots::squared;
 use rules::Generation;
 use rules::generator_of;
-ghost use mathlib.Core.List.{_∷_, []};
+ghost use mathlib.Core.List.{[]};
 ghost use Rattle.whole.specs.Number.{Tells};
-ghost use Rattle.whole.specs.Poly.{Same};
+ghost use Rattle.poly.specs.Polynomials.{Same};
 ghost use Rattle.pair.specs.Pairs.{pairs};
-ghost use Rattle.curve.specs.Curves.{pointsOf, powerForm};
+ghost use Rattle.bernstein.specs.Powers.{powerForm};
+ghost use Rattle.curve.specs.Curves.{pointsOf};
 ghost use Rattle.curve.specs.Steps.{legsOf};
 ghost use Rattle.verdict.specs.Verdicts.{NotGenerated, Holds};
 ghost use Rattle.verdict.specs.Promise.{Recognised, Preimaged};
@@ -68,18 +70,6 @@ pub enum Verdict {
 pub enum PreimageAnswer {
     Found(Preimage),
     Refused(Refusal),
-}
-
-fn three_are_zero(a: Pair, b: Pair, c: Pair) -> bool
-    ensures { λ r. ⌜ Tells (Same pairs (a ∷ b ∷ c ∷ []) []) r ⌝ }
-{
-    if !is_zero(a) {
-        return false;
-    }
-    if !is_zero(b) {
-        return false;
-    }
-    is_zero(c)
 }
 
 // Whether every leg is 0.

@@ -13,7 +13,7 @@ ghost use mathlib.Core.Path.{_≡_};
 ghost use mathlib.Core.List.{[]};
 ghost use mathlib.Core.Logic.{_≢_};
 ghost use Rattle.whole.specs.Number.{FirstPositive, Tells};
-ghost use Rattle.whole.specs.Poly.{Same, scaled, square};
+ghost use Rattle.poly.specs.Polynomials.{Same, scaled, square};
 ghost use Rattle.pair.specs.Pairs.{pairs, imaginary, PartsWithin, AllWithin};
 ghost use Rattle.verdict.specs.Verdicts.{Coprime, Holds, quadratic, LeadKept};
 ghost use Rattle.verdict.specs.Steps.{Signed, Normalised};

@@ -2,11 +2,11 @@
 use crate::Highest;
 use crate::Square;
 use crate::Verdict;
-use curve::Five;
+use curve::LegPowers;
 use curve::Legs;
 use curve::drawn;
 use pair::is_zero;
-use root::Nine;
+use root::Octic;
 use root::Quartic;
 use root::WholeRoot;
 use root::square;
@@ -19,19 +19,21 @@ ghost use Prim.Native.Nat.{_+_};
 ghost use lib.IntN.{pos};
 ghost use lib.Signed.{_<ℤ_};
 ghost use Rattle.whole.specs.Number.{wholes};
-ghost use Rattle.whole.specs.Poly.{Same, Greatest, scaled, sum};
+ghost use Rattle.poly.specs.Polynomials.{Same, scaled, sum};
+ghost use Rattle.whole.specs.Coefficients.{Greatest};
 ghost use Rattle.poly.specs.Terms.{Top};
 ghost use Rattle.pair.specs.Pairs.{AllWithin};
-ghost use Rattle.root.specs.Roots.{nine, quartic, Sized};
+ghost use Rattle.root.specs.Promise.{octic, quartic, Sized};
 ghost use Rattle.root.specs.Search.{Each};
-ghost use Rattle.curve.specs.Curves.{powerForm, reals, imaginaries, squaredLength};
-ghost use Rattle.curve.specs.Steps.{legsOf, five};
+ghost use Rattle.bernstein.specs.Powers.{powerForm};
+ghost use Rattle.curve.specs.Curves.{reals, imaginaries, normPolynomial};
+ghost use Rattle.curve.specs.Steps.{legsOf, legPowers};
 ghost use Rattle.verdict.specs.Verdicts.{NotGenerated, Holds};
 ghost use Rattle.verdict.specs.Steps.{IsHighest, OfLegs};
 
 // The highest power of a polynomial.
-fn degree(e: Five) -> Highest
-    ensures { λ r. ⌜ IsHighest (five e) r ⌝ }
+fn degree(e: LegPowers) -> Highest
+    ensures { λ r. ⌜ IsHighest (legPowers e) r ⌝ }
 {
     let e0 = e.e0;
     let e1 = e.e1;
@@ -56,9 +58,9 @@ fn degree(e: Five) -> Highest
     Highest::Zero
 }
 
-fn added(a: Nine, b: Nine) -> Nine
-    requires { ⌜ Each wholes Sized (nine a) × Each wholes Sized (nine b) ⌝ }
-    ensures { λ r. ⌜ nine r ≡ sum wholes (nine a) (nine b) ⌝ }
+fn added(a: Octic, b: Octic) -> Octic
+    requires { ⌜ Each wholes Sized (octic a) × Each wholes Sized (octic b) ⌝ }
+    ensures { λ r. ⌜ octic r ≡ sum wholes (octic a) (octic b) ⌝ }
 {
     let a0 = a.m0;
     let a1 = a.m1;
@@ -78,7 +80,7 @@ fn added(a: Nine, b: Nine) -> Nine
     let b6 = b.m6;
     let b7 = b.m7;
     let b8 = b.m8;
-    Nine {
+    Octic {
         m0: a0 + b0,
         m1: a1 + b1,
         m2: a2 + b2,
@@ -92,8 +94,8 @@ fn added(a: Nine, b: Nine) -> Nine
 }
 
 // The coordinates of a polynomial of pairs.
-pub fn reals(e: Five) -> Quartic
-    ensures { λ r. ⌜ quartic r ≡ reals (five e) ⌝ }
+pub fn reals(e: LegPowers) -> Quartic
+    ensures { λ r. ⌜ quartic r ≡ reals (legPowers e) ⌝ }
 {
     let e0 = e.e0;
     let e1 = e.e1;
@@ -109,8 +111,8 @@ pub fn reals(e: Five) -> Quartic
     }
 }
 
-pub fn imaginaries(e: Five) -> Quartic
-    ensures { λ r. ⌜ quartic r ≡ imaginaries (five e) ⌝ }
+pub fn imaginaries(e: LegPowers) -> Quartic
+    ensures { λ r. ⌜ quartic r ≡ imaginaries (legPowers e) ⌝ }
 {
     let e0 = e.e0;
     let e1 = e.e1;
@@ -127,28 +129,28 @@ pub fn imaginaries(e: Five) -> Quartic
 }
 
 // |e|^2
-fn squared_length(e: Five) -> Nine
-    requires { ⌜ AllWithin 1280000 (five e) ⌝ }
-    ensures { λ n. ⌜ Same wholes (nine n) (squaredLength (five e)) ⌝ }
+fn norm_polynomial(e: LegPowers) -> Octic
+    requires { ⌜ AllWithin 1280000 (legPowers e) ⌝ }
+    ensures { λ n. ⌜ Same wholes (octic n) (normPolynomial (legPowers e)) ⌝ }
 {
     added(square(reals(e)), square(imaginaries(e)))
 }
 
 // What the coefficients have in common, where one of them is not 0.
-fn content(n: Nine) -> i64
-    requires { ⌜ Each wholes Sized (nine n) × (Same wholes (nine n) [] → ⊥) ⌝ }
-    ensures { λ c. ⌜ Greatest wholes (nine n) c × (pos 0 <ℤ c) × Sized c ⌝ }
+fn content(n: Octic) -> i64
+    requires { ⌜ Each wholes Sized (octic n) × (Same wholes (octic n) [] → ⊥) ⌝ }
+    ensures { λ c. ⌜ Greatest wholes (octic n) c × (pos 0 <ℤ c) × Sized c ⌝ }
 {
     let all = [n.m0, n.m1, n.m2, n.m3, n.m4, n.m5, n.m6, n.m7, n.m8];
     gcd_all(&all) as i64
 }
 
 // n / c, coefficient by coefficient.
-fn shared(n: Nine, c: i64) -> Nine
-    requires { ⌜ Each wholes Sized (nine n) × Greatest wholes (nine n) c × (pos 0 <ℤ c) × Sized c ⌝ }
-    ensures { λ r. ⌜ Same wholes (scaled wholes c (nine r)) (nine n) × Each wholes Sized (nine r) ⌝ }
+fn shared(n: Octic, c: i64) -> Octic
+    requires { ⌜ Each wholes Sized (octic n) × Greatest wholes (octic n) c × (pos 0 <ℤ c) × Sized c ⌝ }
+    ensures { λ r. ⌜ Same wholes (scaled wholes c (octic r)) (octic n) × Each wholes Sized (octic r) ⌝ }
 {
-    Nine {
+    Octic {
         m0: share(n.m0, c),
         m1: share(n.m1, c),
         m2: share(n.m2, c),
@@ -170,7 +172,7 @@ pub(crate) fn squared(legs: Legs) -> Verdict
     let Highest::Power(l) = degree(e) else {
         return Verdict::Still;
     };
-    let n = squared_length(e);
+    let n = norm_polynomial(e);
     let c = content(n);
     let WholeRoot::Root(q) = whole_root(shared(n, c), l) else {
         return Verdict::No;

@@ -18,9 +18,13 @@ ghost use mathlib.Core.Path.{_≡_};
 ghost use mathlib.Core.List.{_∷_, []};
 ghost use mathlib.Core.Logic.{_≢_};
 ghost use Rattle.pair.specs.Pairs.{pairs, PartsWithin, AllWithin};
-ghost use Rattle.curve.specs.Curves.{powerForm};
+ghost use Rattle.bernstein.specs.Powers.{powerForm};
 ghost use Rattle.curve.specs.Steps.{legsOf};
-ghost use Rattle.verdict.specs.Steps.{Shared, Over, MeetsRule, ByMiddle, IsGeneration, IsLine, IsMiddle};
+ghost use Rattle.curve.specs.Sizes.{legReach};
+ghost use Rattle.verdict.specs.Steps.{Shared, Over, MeetsRule, ByMiddle, IsGeneration, IsLine, IsMiddle, middleSize};
+
+// How large a part of the m of the quintic rule may be.
+const MIDDLE_SIZE: u32 = 56568;
 
 // D = k w^2
 pub struct Generator {
@@ -80,7 +84,7 @@ fn line_generator(e0: Pair, e1: Pair, e2: Pair) -> Generation
 
 // (3 d0 d2 - 2 d1^2) / d0, if it is a pair and not too large to be m.
 fn middle_of(d0: Pair, d1: Pair, d2: Pair) -> Middle
-    requires { ⌜ PartsWithin 40000 d0 × PartsWithin 40000 d1 × PartsWithin 40000 d2 × (d0 ≢ pairs .none) ⌝ }
+    requires { ⌜ PartsWithin legReach d0 × PartsWithin legReach d1 × PartsWithin legReach d2 × (d0 ≢ pairs .none) ⌝ }
     ensures { λ r. ⌜ IsMiddle d0 d1 d2 r ⌝ }
 {
     let square = product(d1, d1);
@@ -88,7 +92,7 @@ fn middle_of(d0: Pair, d1: Pair, d2: Pair) -> Middle
         return Middle::None;
     };
     let m = difference(multiple(3, d2), x);
-    if !within(m, 56568) {
+    if !within(m, MIDDLE_SIZE) {
         return Middle::None;
     }
     Middle::Found(m)
@@ -96,7 +100,7 @@ fn middle_of(d0: Pair, d1: Pair, d2: Pair) -> Middle
 
 // The generator that an m leaves which meets the rule, whatever the other legs are.
 fn by_middle(d0: Pair, d1: Pair, m: Pair) -> Generator
-    requires { ⌜ PartsWithin 40000 d0 × PartsWithin 40000 d1 × PartsWithin 56568 m × (d0 ≢ pairs .none) × MeetsRule d0 d1 m ⌝ }
+    requires { ⌜ PartsWithin legReach d0 × PartsWithin legReach d1 × PartsWithin middleSize m × (d0 ≢ pairs .none) × MeetsRule d0 d1 m ⌝ }
     ensures { λ s. ⌜ ByMiddle d0 d1 m s ⌝ }
 {
     let twice = multiple(2, d1);
@@ -111,7 +115,7 @@ fn by_middle(d0: Pair, d1: Pair, m: Pair) -> Generator
 
 // D / t^2 of a quintic whose first leg is 0 has three Bernstein coefficients.
 fn end_generator(d1: Pair, d2: Pair, d3: Pair, d4: Pair) -> Generation
-    requires { ⌜ PartsWithin 40000 d2 × PartsWithin 40000 d3 × PartsWithin 40000 d4 ⌝ }
+    requires { ⌜ PartsWithin legReach d2 × PartsWithin legReach d3 × PartsWithin legReach d4 ⌝ }
     ensures { λ r. ⌜ IsGeneration (powerForm (pairs .none ∷ d1 ∷ d2 ∷ d3 ∷ d4 ∷ [])) r ⌝ }
 {
     if !is_zero(d1) {
@@ -132,7 +136,7 @@ fn end_generator(d1: Pair, d2: Pair, d3: Pair, d4: Pair) -> Generation
 }
 
 fn quintic_generator(d0: Pair, d1: Pair, d2: Pair, d3: Pair, d4: Pair) -> Generation
-    requires { ⌜ AllWithin 40000 (d0 ∷ d1 ∷ d2 ∷ d3 ∷ d4 ∷ []) ⌝ }
+    requires { ⌜ AllWithin legReach (d0 ∷ d1 ∷ d2 ∷ d3 ∷ d4 ∷ []) ⌝ }
     ensures { λ r. ⌜ IsGeneration (powerForm (d0 ∷ d1 ∷ d2 ∷ d3 ∷ d4 ∷ [])) r ⌝ }
 {
     if is_zero(d0) {
@@ -152,7 +156,7 @@ fn quintic_generator(d0: Pair, d1: Pair, d2: Pair, d3: Pair, d4: Pair) -> Genera
 
 // The k and w of D, from the legs.
 pub(crate) fn generator_of(legs: Legs) -> Generation
-    requires { ⌜ AllWithin 40000 (legsOf legs) ⌝ }
+    requires { ⌜ AllWithin legReach (legsOf legs) ⌝ }
     ensures { λ r. ⌜ IsGeneration (powerForm (legsOf legs)) r ⌝ }
 {
     match legs {

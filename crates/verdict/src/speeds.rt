@@ -6,11 +6,11 @@ use root::Quartic;
 ghost use mathlib.Core.Path.{_≡_};
 ghost use lib.IntN.{_+ℤ_, _*ℤ_};
 ghost use Rattle.whole.specs.Number.{wholes};
-ghost use Rattle.whole.specs.Poly.{Same};
+ghost use Rattle.poly.specs.Polynomials.{Same};
 ghost use Rattle.pair.specs.Pairs.{PartsWithin, AllWithin};
-ghost use Rattle.root.specs.Roots.{quartic};
+ghost use Rattle.root.specs.Promise.{quartic};
 ghost use Rattle.verdict.specs.Verdicts.{quadratic};
-ghost use Rattle.curve.specs.Curves.{squaredLength};
+ghost use Rattle.curve.specs.Curves.{normPolynomial};
 
 // The first part of a conj(b).
 fn dot(a: Pair, b: Pair) -> i64
@@ -27,7 +27,7 @@ fn dot(a: Pair, b: Pair) -> i64
 // |w|^2: where D = k w^2, it is the q of N.
 pub(crate) fn speed(w: Quadratic) -> Quartic
     requires { ⌜ AllWithin 20000 (quadratic w) ⌝ }
-    ensures { λ q. ⌜ Same wholes (quartic q) (squaredLength (quadratic w)) ⌝ }
+    ensures { λ q. ⌜ Same wholes (quartic q) (normPolynomial (quadratic w)) ⌝ }
 {
     let b0 = w.b0;
     let b1 = w.b1;

@@ -8,7 +8,6 @@
 --   within k _ refl   what has been read is at most a bound
 --   abs-plus          the triangle inequality
 --   scaled-within     the bound of a multiple
---   within-stable     what is not out of its bound is within it
 --   fits-within       what a bound says of the width
 --   read-back tt h    a number with a bound is read back from the bits of an i64
 -- A need of `x * y - 3 * z`, whatever stands between, is one line, and so is what the code returns (`simp` closes an equation by itself).
@@ -17,9 +16,7 @@
 use mathlib.Core.Path.{_≡_, sym, subst}
 use mathlib.Core.Bool.{true}
 use mathlib.Core.List.{List, [], _∷_}
-use mathlib.Core.Logic.{Dec·not-not}
 use Prim.Native.Nat.{ℕ, zero, suc, _+_, _*_, _^_, _≤_, _<_, zero-le}
-use native.Mathlib.Decide.{decLe}
 use native.Mathlib.Nat.{le-refl, le-trans, le-of-eq, add-le-add, mul-le-mul}
 use lib.Dec.{T, leb, ltb, ltb→lt}
 use lib.IntN.{ℤ, pos, natAbs, _+ℤ_, _*ℤ_}
@@ -75,9 +72,6 @@ val-bound {Bs} {ρ} k e = subst (λ z. natAbs z ≤ bound Bs e) (sym (val-is who
 -- ---- widths
 pub scaled-within : {b : ℕ} {x : ℤ} (n : ℕ) → Within b x → Within (n * b) (pos n *ℤ x)
 scaled-within {x} n h = record { size = le-trans (le-of-eq (abs-times (pos n) x)) (mul-le-mul (le-refl n) (h .size)) }
-
-pub within-stable : {b : ℕ} {x : ℤ} → ((Within b x → ⊥) → ⊥) → Within b x
-within-stable {b} {x} h = record { size = Dec·not-not (decLe (natAbs x) b) .0 (λ n. h (λ w. n (w .size))) }
 
 pub fits-within : {w : Width} {b : ℕ} {x : ℤ} → b < 2 ^ hbits w → Within b x → SFits w x
 fits-within {x} l h = omega (linear, h .size, abs-parts x)

@@ -4,7 +4,7 @@
 --   rest-below                       |r| < |d|, for d other than 0
 --   quotient-fits, rest-fits         both fit where the machine has an answer
 --   rest-zero, zero-rest             where d divides x, r is 0; and where r is 0, d q = x
---   quotient-once, nearest-once      an exact quotient and a nearest one have one answer
+--   share-once, quotient-once, nearest-once      an exact quotient and a nearest one have one answer
 --   nearest-close                    the nearest one leaves at most half of d over
 use mathlib.Core.Path.{_≡_, refl, sym, ap, _∙_}
 use mathlib.Core.List.{[], _∷_}
@@ -17,10 +17,10 @@ use lib.IntN.{ℤ, pos, negsuc, negℤ, natAbs, _+ℤ_, _-ℤ_, _*ℤ_, *ℤ-com
 use lib.Signed.{quotZ, remZ, mag-rem}
 use mir.Syntax.{w64}
 use mir.Val.{SFits}
-use Rattle.whole.specs.Poly.{Divides}
+use Rattle.whole.specs.Coefficients.{Divides}
 use Rattle.whole.specs.Number.{wholes}
 use Rattle.whole.proofs.Integers.{abs-negative, abs-times, abs-zero}
-use Rattle.whole.specs.Quotients.{Divisible, IsQuotient, Nearest}
+use Rattle.whole.specs.Promise.{Divisible, IsQuotient, Nearest}
 use Rattle.whole.specs.declared.Exact.{Exact}
 use Rattle.whole.specs.declared.Exact.the-variants.{Whole, Fraction}
 use Rattle.whole.proofs.Wholes.{readℤ, atomsℤ, ringℤ, *ℤ-cancel, wholes-ring}
@@ -82,8 +82,11 @@ pub zero-rest : (x d : ℤ) → remZ x d ≡ pos 0 → d *ℤ quotZ x d ≡ x
 zero-rest x d e = *ℤ-comm d (quotZ x d) ∙ sym (+ℤ-idr (quotZ x d *ℤ d)) ∙ ap (λ r. quotZ x d *ℤ d +ℤ r) (sym e) ∙ quotient-rest x d
 
 -- ---- one answer
+pub share-once : (n d p q : ℤ) → d ≢ pos 0 → d *ℤ p ≡ n → d *ℤ q ≡ n → p ≡ q
+share-once n d p q h e f = *ℤ-cancel d h (e ∙ sym f)
+
 pub quotient-once : (n d : ℤ) → d ≢ pos 0 → (r s : Exact) → IsQuotient n d r → IsQuotient n d s → r ≡ s
-quotient-once n d h (Whole p) (Whole q) e f = ap Whole (*ℤ-cancel d h (e ∙ sym f))
+quotient-once n d h (Whole p) (Whole q) e f = ap Whole (share-once n d p q h e f)
 quotient-once n d h (Whole p) Fraction e f = absurd (f (record { factor = p; is = e }))
 quotient-once n d h Fraction (Whole q) e f = absurd (e (record { factor = q; is = f }))
 quotient-once n d h Fraction Fraction e f = refl

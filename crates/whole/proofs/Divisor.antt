@@ -15,7 +15,7 @@ use Prim.Native.Nat.{ℕ, zero, suc, _*_, _≤_}
 use native.Mathlib.Nat.{suc-ne-zero}
 use native.Mathlib.Omega.{arith}
 use lib.IntN.{ℤ, pos, negsuc, natAbs, zero-*ℤ}
-use Rattle.whole.specs.Poly.{Coefficients, at, Divides, Greatest}
+use Rattle.whole.specs.Coefficients.{Coefficients, at, Divides, Greatest}
 use Rattle.whole.specs.Number.{wholes}
 use Rattle.whole.proofs.Integers.{abs-times, abs-zero}
 use Rattle.whole.proofs.Ring.{Ring, times-none}

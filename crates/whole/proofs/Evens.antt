@@ -20,9 +20,9 @@ use lib.Arith.{lt-one}
 use lib.Count.{trailingZeros, under}
 use lib.IntN.{ℤ, pos, negsuc, negℤ, natAbs, _+ℤ_, _*ℤ_, *ℤ-comm}
 use lib.Pow.{pow-add, pow-pos, shl-shr}
-use Rattle.whole.specs.Poly.{Divides, Greatest}
+use Rattle.whole.specs.Coefficients.{Divides, Greatest}
 use Rattle.whole.specs.Number.{wholes}
-use Rattle.whole.specs.Quotients.{OddPart}
+use Rattle.whole.specs.Steps.{OddPart}
 use Rattle.whole.proofs.Wholes.{wholes-ring, atomsℤ, readℤ, read-pos, ringℤ, *ℤ-cancel}
 use Rattle.whole.proofs.Divisor.{divides-self, divides-plus, divides-multiple, divides-trans, divides-le, common-two, greatest-says, greatest-is, division-common, divides-none}
 

@@ -1,9 +1,13 @@
 -- What a flag tells.
 --   told, untold     P holds where its flag is true, and not where it is false: for a branch that has tested it
---   told-once        P has one flag
+--   told-once        P has one flag: one answer of every promise by `Tells`
+--   told-map         what holds exactly where P does has the same flag
+--   equal-tells      what a returned test of two natural numbers tells
 use mathlib.Core.Path.{_≡_, refl, subst}
 use mathlib.Core.Bool.{Bool, true, false, not}
-use borrow.Author.Tests.{not-true, not-false}
+use Prim.Native.Nat.{ℕ}
+use borrow.Author.Tests.{not-true, not-false, eqb-true, eqb-false}
+use lib.Dec.{eqb}
 use Rattle.whole.specs.Number.{Tells}
 
 pub told : {P : Type 0} (r : Bool) → Tells P r → not r ≡ false → P
@@ -21,3 +25,10 @@ told-once P false false h k = refl
 pub told-map : {P Q : Type 0} → (P → Q) → (Q → P) → (r : Bool) → Tells P r → Tells Q r
 told-map there back false h = λ q. h (back q)
 told-map there back true h = there h
+
+pub equal-tells : (a b : ℕ) → Tells (a ≡ b) (eqb a b)
+equal-tells a b = by (eqb a b) refl
+  where
+    by : (r : Bool) → eqb a b ≡ r → Tells (a ≡ b) r
+    by true e = eqb-true a b e
+    by false e = eqb-false a b e

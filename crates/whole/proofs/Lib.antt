@@ -14,4 +14,5 @@ pub mod Evens
 pub mod Fill
 pub mod Flags
 pub mod Squares
+pub mod Tables
 mod Examples

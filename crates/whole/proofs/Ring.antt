@@ -5,7 +5,7 @@
 -- There is no law that the carrier is a set: none is needed.
 use mathlib.Core.Path.{_≡_, sym, ap, ap₂, _∙_}
 use lib.IntN.{ℤ, pos, negsuc, _+ℤ_, _*ℤ_}
-use Rattle.whole.specs.Poly.{Coefficients}
+use Rattle.whole.specs.Coefficients.{Coefficients}
 
 pub record Ring {A : Type 0} (C : Coefficients A) : Type 0 where
   pub negative : A → A

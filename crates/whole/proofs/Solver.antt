@@ -16,7 +16,7 @@ use mathlib.Core.List.{List, [], _∷_}
 use Prim.Native.Nat.{ℕ, zero, suc}
 use lib.Dec.{T, eqb, eqb→eq}
 use lib.IntN.{ℤ, pos, negsuc, _+ℤ_, _*ℤ_}
-use Rattle.whole.specs.Poly.{Coefficients}
+use Rattle.whole.specs.Coefficients.{Coefficients}
 use Rattle.whole.proofs.Ring.{Ring, none-plus, plus-times, times-none, none-times, minus-one, zero-difference}
 
 -- ---- expressions; `lit n` is the literal n and `lit⁻ n` the literal −(n + 1), as ℤ has them

@@ -16,9 +16,9 @@ use native.Mathlib.Decide.{decLe, decLt}
 use lib.Dec.{eqb, lit<}
 use native.Mathlib.Omega.{arith}
 use lib.IntN.{ℤ, pos, natAbs, _*ℤ_}
-use Rattle.whole.specs.Roots.{FloorRoot, IsRoot}
+use Rattle.whole.specs.Promise.{FloorRoot, IsRoot}
 use Rattle.whole.specs.declared.Root.{Root}
-use Rattle.whole.specs.declared.Root.the-variants.{Square, NotSquare}
+use Rattle.whole.specs.declared.Root.the-variants.{Square, None}
 use Rattle.whole.proofs.Integers.{abs-times}
 
 pub root-positive : (n r : ℕ) → n ≢ 0 → n < (r + 1) * (r + 1) → 0 < r
@@ -92,9 +92,9 @@ floor-root-is f k e = floor-root-once f (record { low = omega arith; high = omeg
 
 pub root-once : (n : ℕ) (r s : Root) → IsRoot n r → IsRoot n s → r ≡ s
 root-once n (Square a) (Square b) e f = ap Square (floor-root-is (record { low = omega arith; high = omega arith }) b f)
-root-once n (Square a) NotSquare e f = absurd (f a e)
-root-once n NotSquare (Square b) e f = absurd (e b f)
-root-once n NotSquare NotSquare e f = refl
+root-once n (Square a) None e f = absurd (f a e)
+root-once n None (Square b) e f = absurd (e b f)
+root-once n None None e f = refl
 
 -- ---- whole numbers
 pub record Between (v : ℤ) : Type 0 where

@@ -1,14 +1,14 @@
-// Whole numbers: exact and nearest quotients, square roots, and common divisors.
+// Whole numbers: exact and nearest quotients, square roots, sizes, and common divisors.
 ghost use mathlib.Core.Path.{_≡_};
 ghost use mathlib.Core.List.{_∷_, []};
 ghost use mathlib.Core.Logic.{_≢_};
 ghost use Prim.Native.Nat.{_%_};
 ghost use lib.IntN.{pos, natAbs, _*ℤ_};
 ghost use lib.Signed.{_<ℤ_};
-ghost use Rattle.whole.specs.Number.{wholes, Within};
-ghost use Rattle.whole.specs.Poly.{Greatest};
-ghost use Rattle.whole.specs.Quotients.{Divisible, IsQuotient, Shares, Nearest, OddPart};
-ghost use Rattle.whole.specs.Roots.{Above, Passes, FloorRoot, IsRoot};
+ghost use Rattle.whole.specs.Number.{wholes, Within, Tells, normSize};
+ghost use Rattle.whole.specs.Coefficients.{Greatest};
+ghost use Rattle.whole.specs.Promise.{Divisible, IsQuotient, Shares, Nearest, FloorRoot, IsRoot};
+ghost use Rattle.whole.specs.Steps.{OddPart, Guess, Passes};
 
 // A quotient that has to be whole.
 pub enum Exact {
@@ -19,7 +19,7 @@ pub enum Exact {
 // A root that has to be whole.
 pub enum Root {
     Square(u64),
-    NotSquare,
+    None,
 }
 
 // n / d where d divides n.
@@ -37,7 +37,7 @@ pub fn quotient(n: i64, d: i64) -> Exact
 // n / d, which is whole.
 pub fn share(n: i64, d: i64) -> i64
     requires { ⌜ Shares n d ⌝ }
-    ensures { λ r. ⌜ (d *ℤ r ≡ n) × Within 10000000000000 r ⌝ }
+    ensures { λ r. ⌜ (d *ℤ r ≡ n) × Within normSize r ⌝ }
 {
     n / d
 }
@@ -62,7 +62,7 @@ pub fn nearest(n: i64, d: i64) -> i64
 // The mean of a power of two near the root of n and of n over it: a step of Newton's without a division.
 fn guess(n: u64) -> u64
     requires { ⌜ n ≢ 0 ⌝ }
-    ensures { λ r. ⌜ Above n r ⌝ }
+    ensures { λ r. ⌜ Guess n r ⌝ }
 {
     let k = (64 - u64::leading_zeros(n)) / 2;
     ((1u64 << k) + (n >> k)) / 2
@@ -94,13 +94,13 @@ pub fn square_root(n: u64) -> Root
     ensures { λ r. ⌜ IsRoot n r ⌝ }
 {
     if !ends_as_a_square(n) {
-        return Root::NotSquare;
+        return Root::None;
     }
     let r = floor_root(n);
     if r * r == n {
         Root::Square(r)
     } else {
-        Root::NotSquare
+        Root::None
     }
 }
 
@@ -113,6 +113,20 @@ pub fn size(x: i64) -> u64
     } else {
         x as u64
     }
+}
+
+// Whether x is at most `bound` away from zero.
+pub fn within(x: i64, bound: u32) -> bool
+    ensures { λ r. ⌜ Tells (Within bound x) r ⌝ }
+{
+    let most = bound as i64;
+    if x < 0 - most {
+        return false;
+    }
+    if most < x {
+        return false;
+    }
+    true
 }
 
 // n with its factors of 2 taken out.

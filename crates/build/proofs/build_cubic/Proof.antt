@@ -4,7 +4,7 @@ use borrow.Author.Needs.{needs}
 use Rattle.whole.specs.Number.{Tells}
 use Rattle.whole.proofs.Flags.{told, untold}
 use Rattle.pair.specs.declared.Pair.{Pair}
-use Rattle.build.specs.Builds.{Source, cubic, pairsOf, Allowed, AllZero}
+use Rattle.build.specs.Promise.{Source, cubic, pairsOf, Allowed, AllZero}
 use Rattle.build.proofs.Triples.{allowed-two, none-two}
 use Rattle.build.proofs.Answers.{refused-range, refused-still, answered}
 use Rattle.build.proofs.build_cubic.Statement.{statement}
@@ -20,8 +20,8 @@ module _ (c : tie.Start) where
 allowed-tells : (c : tie.After-allowed) → Tells (Allowed (p0 (c .before)) (pairsOf (s (c .before)))) (c .allowed .result)
 allowed-tells c = let a = c .before .args in allowed-two (a .w0) (a .w1) (a .p0) (c .allowed .result) (c .allowed .ensures)
 
-zero-tells : (c : tie.After-all-zero) → Tells (AllZero (pairsOf (s (c .before .before .before)))) (c .all-zero .result)
-zero-tells c = let a = c .before .before .before .args in none-two (a .w0) (a .w1) (c .all-zero .result) (c .all-zero .ensures)
+zero-tells : (c : tie.After-three-are-zero) → Tells (AllZero (pairsOf (s (c .before .before .before)))) (c .three-are-zero .result)
+zero-tells c = let a = c .before .before .before .args in none-two (a .w0) (a .w1) (c .three-are-zero .result) (c .three-are-zero .ensures)
 
 allowed-requires : tie.Need-allowed-requires
 allowed-requires c κs = search needs
@@ -29,8 +29,8 @@ allowed-requires c κs = search needs
 returns : tie.Need-returns
 returns c = let b = c .before .before in refused-range (p0 b) (s b) (untold (c .before .allowed .result) (allowed-tells (c .before)) (c .if1 .taken))
 
-all-zero-requires : tie.Need-all-zero-requires
-all-zero-requires c κs = search needs
+three-are-zero-requires : tie.Need-three-are-zero-requires
+three-are-zero-requires c κs = search needs
 
 is-allowed : (c : tie.Else1) → Allowed (p0 (c .before .before)) (pairsOf (s (c .before .before)))
 is-allowed c = told (c .before .allowed .result) (allowed-tells (c .before)) (c .if1 .left)
@@ -59,7 +59,7 @@ build-cubic-spec =
     (tie.spec
     allowed-requires
     returns
-    all-zero-requires
+    three-are-zero-requires
     returns-2
     cubic-points-requires
     ranged-requires

@@ -3,11 +3,12 @@ use mathlib.Core.Path.{_≡_, refl, subst}
 use borrow.Author.Needs.{needs}
 use lib.IntN.{pos}
 use Rattle.whole.specs.Number.{Tells}
+use Rattle.whole.proofs.Linear.{linear}
 use Rattle.whole.proofs.Flags.{told, untold}
 use Rattle.pair.specs.declared.Pair.{Pair}
 use Rattle.pair.specs.Pairs.{multiple}
-use Rattle.build.specs.Builds.{Source, quintic, pairsOf, thrice, Allowed}
-use Rattle.build.specs.Steps.{IsThird}
+use Rattle.divisor.specs.Promise.{IsOverWhole}
+use Rattle.build.specs.Promise.{Source, quintic, pairsOf, thrice, Allowed}
 use Rattle.build.proofs.Sizes.{thrice-within, third-within}
 use Rattle.build.proofs.Legs.{third-found}
 use Rattle.build.proofs.Answers.{refused-range, refused-still, refused-thirds, answered}
@@ -30,8 +31,8 @@ allowed-requires c κs = search needs
 returns : tie.Need-returns
 returns c = let b = c .before .before in refused-range (p0 b) (s b) (untold (c .before .allowed .result) (c .before .allowed .ensures) (c .if1 .taken))
 
-all-zero-requires : tie.Need-all-zero-requires
-all-zero-requires c κs = search needs
+three-are-zero-requires : tie.Need-three-are-zero-requires
+three-are-zero-requires c κs = search needs
 
 is-allowed : (c : tie.Else1) → Allowed (p0 (c .before .before)) (pairsOf (s (c .before .before)))
 is-allowed c = told (c .before .allowed .result) (c .before .allowed .ensures) (c .if1 .left)
@@ -39,20 +40,20 @@ is-allowed c = told (c .before .allowed .result) (c .before .allowed .ensures) (
 returns-2 : tie.Need-returns-2
 returns-2 c =
     let b = c .before .before .before .before in
-    refused-still (p0 b) (s b) (is-allowed (c .before .before)) (subst (Tells _) (c .if2 .taken) (c .before .all-zero .ensures))
+    refused-still (p0 b) (s b) (is-allowed (c .before .before)) (subst (Tells _) (c .if2 .taken) (c .before .three-are-zero .ensures))
 
 thrice-middle-requires : tie.Need-thrice-middle-requires
 thrice-middle-requires c κs = let a = is-allowed (c .before .before) in (a .1 0, a .1 1, a .1 2)
 
-third-requires : tie.Need-third-requires
-third-requires c κs = search needs
+over-whole-requires : tie.Need-over-whole-requires
+over-whole-requires c κs = omega linear
 
 -- the start of the function, from where w is allowed and not zero
 abbrev o : tie.Else2 → tie.Start
 o c = c .before .before .before .before
 
-third-is : (c : tie.After-third) → IsThird (t (o (c .before .before))) (c .third .result)
-third-is c = subst (λ (x : Pair). IsThird x (c .third .result)) (c .before .thrice-middle .ensures) (c .third .ensures)
+third-is : (c : tie.After-over-whole) → IsOverWhole (t (o (c .before .before))) (pos 3) (c .over-whole .result)
+third-is c = subst (λ (x : Pair). IsOverWhole x (pos 3) (c .over-whole .result)) (c .before .thrice-middle .ensures) (c .over-whole .ensures)
 
 enum-known-d2 : tie.Need-enum-known-d2
 enum-known-d2 c = search needs
@@ -65,7 +66,7 @@ returns-3 c =
     let h = c .before .before in
     let e = h .before .before in
     let b = o e in
-    refused-thirds (p0 b) (s b) (is-allowed (e .before .before)) (subst (Tells _) (e .if2 .left) (e .before .all-zero .ensures)) (subst (IsThird _) (c .enum-told .given .1) (third-is h))
+    refused-thirds (p0 b) (s b) (is-allowed (e .before .before)) (subst (Tells _) (e .if2 .left) (e .before .three-are-zero .ensures)) (subst (IsOverWhole _ (pos 3)) (c .enum-told .given .1) (third-is h))
 
 abbrev d2 : tie.After-known-told → Pair
 d2 c = c .before .d2 .given .0 .0
@@ -74,7 +75,7 @@ abbrev passed : tie.After-known-told → tie.Else2
 passed c = c .before .before .before .before .before
 
 middle : (c : tie.After-known-told) → multiple (pos 3) (d2 c) ≡ t (o (passed c))
-middle c = subst (IsThird _) (c .before .d2 .given .1) (third-is (c .before .before .before))
+middle c = subst (IsOverWhole _ (pos 3)) (c .before .d2 .given .1) (third-is (c .before .before .before))
 
 quintic-points-requires : tie.Need-quintic-points-requires
 quintic-points-requires c κs =
@@ -89,7 +90,7 @@ returns-4 c =
     let d = c .before .before in
     let e = passed d in
     let b = o e in
-    answered (p0 b) (s b) (is-allowed (e .before .before)) (subst (Tells _) (e .if2 .left) (e .before .all-zero .ensures)) (third-found (d2 d) (middle d)) _ (d2 d, middle d, refl) _
+    answered (p0 b) (s b) (is-allowed (e .before .before)) (subst (Tells _) (e .if2 .left) (e .before .three-are-zero .ensures)) (third-found (d2 d) (middle d)) _ (d2 d, middle d, refl) _
     (c .before .quintic-points .ensures) (c .ranged .result) (c .ranged .ensures)
 
 pub build-quintic-spec : {M : Type 1} → statement M
@@ -98,10 +99,10 @@ build-quintic-spec =
     (tie.spec
     allowed-requires
     returns
-    all-zero-requires
+    three-are-zero-requires
     returns-2
     thrice-middle-requires
-    third-requires
+    over-whole-requires
     enum-known-d2
     enum-told
     returns-3

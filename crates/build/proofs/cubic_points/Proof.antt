@@ -3,12 +3,13 @@ use native.Mathlib.Omega.{arith}
 use borrow.Author.Needs.{needs}
 use Rattle.pair.specs.Pairs.{PartsWithin}
 use Rattle.pair.proofs.Parts.{wider}
+use Rattle.curve.specs.Sizes.{coordinateReach}
 use Rattle.build.proofs.Legs.{points-on, points-end}
 use Rattle.build.proofs.cubic_points.Statement.{statement}
 use Rattle.build.proofs.cubic_points.Tie as tie
 
 p1-within : (c : tie.After-next) → PartsWithin 100000 (c .next .result)
-p1-within c = c .next .ensures .near 20000 (search needs)
+p1-within c = c .next .ensures .near coordinateReach (search needs)
 
 p2-within : (c : tie.After-next2) → PartsWithin 180000 (c .next2 .result)
 p2-within c = c .next2 .ensures .near 100000 (p1-within (c .before))

@@ -3,7 +3,7 @@ use borrow.Author.Needs.{needs}
 use mathlib.Core.Path.{refl, subst}
 use mathlib.Core.Logic.{inl, inr}
 use mir.ValLaws.{toZ-ofZ}
-use Rattle.build.specs.Builds.{cubic, quintic}
+use Rattle.build.specs.Promise.{cubic, quintic}
 use Rattle.hand.proofs.Areas.{hands-same}
 use Rattle.hand.specs.Promise.{IsSource}
 use Rattle.hand.proofs.Handing.{handed}

@@ -8,7 +8,7 @@ use mir.Val.{SFits, toZ, ofZ}
 use mir.ValLaws.{toZ-ofZ}
 use Rattle.curve.specs.declared.Curve.{Curve}
 use Rattle.offset.specs.declared.OffsetAnswer.{OffsetAnswer}
-use Rattle.offset.specs.Offsets.{OffsetBy}
+use Rattle.offset.specs.Promise.{OffsetBy}
 use Rattle.record.proofs.Signs.{settled}
 use Rattle.hand.proofs.Areas.{hands-same}
 use Rattle.hand.proofs.Handing.{wrong-count, right-count}

@@ -20,7 +20,7 @@ use Rattle.whole.proofs.Machine.{same-bits, nonzero-bits}
 use Rattle.whole.proofs.Bound.{done, _▸_, bounds, within, fits-within, read-back}
 use Rattle.pair.specs.declared.Pair.{Pair}
 use Rattle.pair.specs.Pairs.{times}
-use Rattle.divisor.specs.Roots.{HalfRoot}
+use Rattle.divisor.specs.Steps.{HalfRoot}
 use Rattle.divisor.proofs.Halves.{norm-root-small, plus-nonneg, minus-nonneg, half-plus, half-minus, root-of-zero, quotient-nonneg, root-by-quotient}
 use Rattle.divisor.proofs.candidate.Statement.{statement}
 use Rattle.divisor.proofs.candidate.Tie as tie

@@ -8,7 +8,7 @@ use lib.IntN.{natAbs}
 use mir.Facts.{sfits-lit}
 use mir.Syntax.{w64}
 use mir.Val.{ofZ}
-use Rattle.whole.specs.Poly.{Divides}
+use Rattle.whole.specs.Coefficients.{Divides}
 use Rattle.whole.specs.Number.{Tells}
 use Rattle.whole.proofs.Divisor.{divides-none, common-two, greatest-is, division-common}
 use Rattle.whole.proofs.Machine.{same-bits}

@@ -9,7 +9,7 @@ use mir.Syntax.{w64}
 use mir.Val.{toZ, ofZ}
 use mir.ValLaws.{toZ-ofZ}
 use Rattle.whole.specs.Number.{Within}
-use Rattle.whole.specs.Roots.{IsRoot}
+use Rattle.whole.specs.Promise.{IsRoot}
 use Rattle.whole.proofs.Bound.{fits-within}
 use Rattle.whole.proofs.Linear.{linear}
 use Rattle.whole.proofs.Machine.{cast-asks}

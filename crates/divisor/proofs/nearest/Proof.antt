@@ -5,7 +5,7 @@ use lib.Dec.{lit≤}
 use mir.Syntax.{w64}
 use mir.Val.{toZ, ofZ}
 use mir.ValLaws.{toZ-ofZ}
-use Rattle.whole.specs.Quotients.{Nearest}
+use Rattle.whole.specs.Promise.{Nearest}
 use Rattle.pair.specs.declared.Pair.{Pair}
 use Rattle.pair.specs.Pairs.{times, conjugate, norm}
 use Rattle.pair.proofs.Parts.{wider}

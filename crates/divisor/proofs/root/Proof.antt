@@ -5,7 +5,7 @@ use lib.IntN.{pos, natAbs}
 use mir.Syntax.{w64}
 use mir.Val.{SFits, toZ, ofZ}
 use mir.ValLaws.{toZ-ofZ}
-use Rattle.whole.specs.Roots.{IsRoot}
+use Rattle.whole.specs.Promise.{IsRoot}
 use Rattle.whole.proofs.Integers.{abs-times}
 use Rattle.whole.proofs.Order.{nonneg-is}
 use Rattle.whole.proofs.Machine.{cast-asks}

@@ -7,8 +7,8 @@ use lib.IntN.{ℤ, pos, _*ℤ_}
 use mir.Syntax.{w64}
 use mir.Val.{toZ, ofZ}
 use mir.ValLaws.{toZ-ofZ}
-use Rattle.whole.specs.Number.{Within}
-use Rattle.whole.specs.Quotients.{Shares}
+use Rattle.whole.specs.Number.{Within, normSize}
+use Rattle.whole.specs.Promise.{Shares}
 use Rattle.whole.proofs.Bound.{read-back}
 use Rattle.pair.specs.declared.Pair.{Pair}
 use Rattle.pair.specs.Pairs.{pair, times, conjugate, norm, PartsWithin}
@@ -52,11 +52,11 @@ module _ (c : tie.After-struct-told2) where
   d-is : toZ w64 (ofZ w64 (c .before .before .norm .result)) ≡ norm b
   d-is = toZ-ofZ w64 _ (search needs) ∙ c .before .before .norm .ensures
 
-  top-small : PartsWithin 10000000000000 (times a (conjugate b))
+  top-small : PartsWithin normSize (times a (conjugate b))
   top-small = wider (lit≤ tt) (times-within (s .pre .0) (conjugate-within (s .pre .1)))
 
   -- |b|² divides n, a part of a conj(b)
-  shares : (n m : ℤ) → norm b *ℤ m ≡ n → Within 10000000000000 n → Shares n (norm b)
+  shares : (n m : ℤ) → norm b *ℤ m ≡ n → Within normSize n → Shares n (norm b)
   shares n m e h = record {
     whole = record { factor = m; is = e };
     positive = norm-some b (s .pre .2);

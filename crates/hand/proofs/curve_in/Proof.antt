@@ -47,14 +47,16 @@ pair-at-requires-10 c κs = search needs
 
 returns-2 : tie.Need-returns-2
 returns-2 c =
-    let p0 = c .before .before .before .before .before .pair-at5 .ensures in
-    let p1 = c .before .before .before .before .pair-at6 .ensures in
-    let p2 = c .before .before .before .pair-at7 .ensures in
-    let p3 = c .before .before .pair-at8 .ensures in
+    let four = c .before .before in
+    let two = four .before .before in
+    let p0 = two .before .pair-at5 .ensures in
+    let p1 = two .pair-at6 .ensures in
+    let p2 = four .before .pair-at7 .ensures in
+    let p3 = four .pair-at8 .ensures in
     let p4 = c .before .pair-at9 .ensures in
     let p5 = c .pair-at10 .ensures in
     (λ i. p0 i .re ∷ p0 i .im ∷ p1 i .re ∷ p1 i .im ∷ p2 i .re ∷ p2 i .im ∷ p3 i .re ∷ p3 i .im ∷ p4 i .re ∷ p4 i .im ∷ p5 i .re ∷ p5 i .im ∷ [])
-    ∙ spelled-all 12 _ (c .before .before .before .before .before .before .if2 .taken)
+    ∙ spelled-all 12 _ (two .before .before .if2 .taken)
 
 returns-3 : tie.Need-returns-3
 returns-3 c = search needs

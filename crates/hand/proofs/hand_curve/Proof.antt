@@ -43,13 +43,13 @@ same-length : tie.Need-same-length
 same-length c = search needs
 
 returns : tie.Need-returns
-returns c = hands-same (named (c .before .before .before .before .before .before .curve .given .1) (c .before .before .before .before .cubic-numbers .ensures)) (c .before .hand .ok) (c .before .hand .ensures)
+returns c = let numbers = c .before .before .before .before in hands-same (named (numbers .before .before .curve .given .1) (numbers .cubic-numbers .ensures)) (c .before .hand .ok) (c .before .hand .ensures)
 
 same-length-2 : tie.Need-same-length-2
 same-length-2 c = search needs
 
 returns-2 : tie.Need-returns-2
-returns-2 c = hands-same (named (c .before .before .before .before .before .before .curve2 .given .1) (c .before .before .before .before .quintic-numbers .ensures)) (c .before .hand2 .ok) (c .before .hand2 .ensures)
+returns-2 c = let numbers = c .before .before .before .before in hands-same (named (numbers .before .before .curve2 .given .1) (numbers .quintic-numbers .ensures)) (c .before .hand2 .ok) (c .before .hand2 .ensures)
 
 pub hand-curve-spec : {M : Type 1} → statement M
 hand-curve-spec =

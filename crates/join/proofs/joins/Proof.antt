@@ -19,7 +19,7 @@ use Rattle.area.proofs.Promises.{refused-in}
 use Rattle.pair.specs.declared.Pair.{Pair}
 use Rattle.join.specs.declared.JoinAnswer.{JoinAnswer}
 use Rattle.join.specs.declared.JoinAnswer.the-variants as answers
-use Rattle.join.specs.Listing.{InRange, DeadEnd, Joined, causes, numbers}
+use Rattle.join.specs.Promise.{EndsInRange, DeadEnd, Joined, causes, numbers}
 use Rattle.join.proofs.Writing.{numbers-length}
 use Rattle.join.proofs.joins.Statement.{statement}
 use Rattle.join.proofs.joins.Tie as tie
@@ -45,7 +45,7 @@ returns c =
     shut (s .args .a) (s .args .z) (s .args .t) (s .args .area .now) (c .before .refused .last .0) R.Range (c .before .refused .result) (c .before .refused .ensures)
     (inl (untold (i .before .in-range .result) (i .before .in-range .ensures) (i .if1 .taken), refl))
 
-ranged : (c : tie.Else1) → InRange (c .before .before .args .a) (c .before .before .args .z) (c .before .before .args .t)
+ranged : (c : tie.Else1) → EndsInRange (c .before .before .args .a) (c .before .before .args .z) (c .before .before .args .t)
 ranged c = told (c .before .in-range .result) (c .before .in-range .ensures) (c .if1 .left)
 
 is-dead-end-requires : tie.Need-is-dead-end-requires

@@ -9,7 +9,7 @@ use lib.Seq.{sets-eq}
 use mir.Syntax.{w64}
 use mir.Val.{SFits, toZ, ofZ}
 use mir.ValLaws.{toZ-ofZ}
-use Rattle.join.specs.Listing.{numbers}
+use Rattle.join.specs.Promise.{numbers}
 use Rattle.join.proofs.put.Statement.{statement}
 use Rattle.join.proofs.put.Tie as tie
 

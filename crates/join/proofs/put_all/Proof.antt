@@ -9,9 +9,9 @@ use lib.ListN.{length}
 use Rattle.pair.specs.declared.Pair.{Pair}
 use Rattle.pair.specs.Pairs.{pairs, plus, minus, times, multiple, PartsWithin}
 use Rattle.pair.proofs.Parts.{wider, plus-within, minus-within, negative-within}
-use Rattle.divisor.specs.Roots.{KeptRoot, IsPairRoot}
+use Rattle.divisor.specs.Promise.{KeptRoot, IsPairRoot}
 use Rattle.divisor.proofs.Roots.{pair-root-within}
-use Rattle.join.specs.Steps.{Half, Sized}
+use Rattle.join.specs.Steps.{Half, JoinSizes, rootReach}
 use Rattle.join.proofs.Centres.{rest, halves-join, join-halves, ends-below}
 use Rattle.join.proofs.Sizes.{rest-within}
 use Rattle.join.proofs.Writing.{writes-none, writes-both, writes-as, writes-same}
@@ -77,11 +77,11 @@ module _ (c : tie.After-known-told2) where
   r-some : r ≢ pairs .none
   r-some e = s .pre .1 (inr (sym (last .squared) ∙ ap (λ (w : Pair). times w w) e))
 
-  w0-within : PartsWithin 200 w0
-  w0-within = pair-root-within 40000 200 a w0 (s .pre .0 .first) (first .squared) (omega arith) (omega arith)
+  w0-within : PartsWithin rootReach w0
+  w0-within = pair-root-within 40000 rootReach a w0 (s .pre .0 .first) (first .squared) (omega arith) (omega arith)
 
-  r-within : PartsWithin 200 r
-  r-within = pair-root-within 40000 200 z r (s .pre .0 .last) (last .squared) (omega arith) (omega arith)
+  r-within : PartsWithin rootReach r
+  r-within = pair-root-within 40000 rootReach z r (s .pre .0 .last) (last .squared) (omega arith) (omega arith)
 
 sum-requires : tie.Need-sum-requires
 sum-requires c κs = search needs
@@ -102,25 +102,35 @@ multiple-requires c κs =
 rest-is : (c : tie.After-multiple) → c .multiple .result ≡ rest (a (c .before .before .before)) (z (c .before .before .before)) (T (c .before .before .before))
 rest-is c = c .multiple .ensures ∙ ap (multiple (pos 3)) (sum-is (c .before))
 
+-- sizes are found for whichever root is meant
 negative-requires : tie.Need-negative-requires
-negative-requires c κs = wider (omega arith) (r-within (c .before .before .before))
-
-sized : (c : tie.After-multiple) (w2 : Pair) → PartsWithin 200 w2 → Sized (c .multiple .result) (w0 (c .before .before .before)) w2
-sized c w2 h =
+negative-requires c κs =
     let t = c .before .before .before in
-    record { rest = rw (rest-is c) (rest-within (a t) (z t) (T t) (s t .pre .0)); first = w0-within t; last = h }
+    let g = w0-within t in
+    let h = r-within t in
+    wider {B = rootReach} (omega arith) (search needs)
 
-low-within : (c : tie.After-negative) → PartsWithin 200 (c .negative .result)
-low-within c = rw (c .negative .ensures) (negative-within (r-within (c .before .before .before .before)))
+sized : (c : tie.After-multiple) (u v : Pair) → PartsWithin rootReach u → PartsWithin rootReach v → JoinSizes (c .multiple .result) u v
+sized c u v h k =
+    let t = c .before .before .before in
+    record { rest = rw (rest-is c) (rest-within (a t) (z t) (T t) (s t .pre .0)); first = h; last = k }
+
+low-within : (c : tie.After-negative) → PartsWithin rootReach (c .negative .result)
+low-within c =
+    let t = c .before .before .before .before in
+    let g = negative-within (w0-within t) in
+    let h = negative-within (r-within t) in
+    rw (c .negative .ensures) (search needs)
 
 put-half-requires : tie.Need-put-half-requires
 put-half-requires c κs =
     let m = c .before .before in
     let t = m .before .before .before in
     let room : 12 ≤ length (s t .args .area .now) = omega (arith, s t .pre .2) in
+    let g = w0-within t in
     let h = r-within t in
     let n = low-within (c .before) in
-    (sized m _ (search needs), room)
+    (sized m _ _ (search needs) (search needs), room)
 
 put-half-requires-2 : tie.Need-put-half-requires-2
 put-half-requires-2 c κs =
@@ -128,9 +138,10 @@ put-half-requires-2 c κs =
     let t = m .before .before .before in
     let q = c .before .before .put-half in
     let room : q .result + 12 ≤ length (q .last .0) = omega (arith, q .ensures .next-is, q .ensures .few, q .ensures .same-room, s t .pre .2) in
+    let g = w0-within t in
     let h = r-within t in
     let n = low-within (c .before .before .before .before) in
-    (sized m _ (search needs), room)
+    (sized m _ _ (search needs) (search needs), room)
 
 same-length : tie.Need-same-length
 same-length c = search needs

@@ -8,10 +8,10 @@ use Rattle.whole.specs.Number.{Tells}
 use Rattle.pair.specs.declared.Pair.{Pair}
 use Rattle.pair.specs.Pairs.{pairs, minus, negative, multiple, PartsWithin}
 use Rattle.pair.proofs.Parts.{wider, plus-within, negative-within}
-use Rattle.divisor.specs.Roots.{KeptRoot, IsPairRoot}
+use Rattle.divisor.specs.Promise.{KeptRoot, IsPairRoot}
 use Rattle.divisor.proofs.Roots.{pair-root-within}
-use Rattle.join.specs.Listing.{Triple}
-use Rattle.join.specs.Steps.{shift, discriminant, centre, Sized, Quartered}
+use Rattle.join.specs.Promise.{Triple}
+use Rattle.join.specs.Steps.{shift, discriminant, centre, JoinSizes, Quartered}
 use Rattle.join.proofs.Centres.{quarters-half, half-quarters, quarters-below}
 use Rattle.join.proofs.Sizes.{shift-within, discriminant-within}
 use Rattle.join.proofs.Writing.{writes-none, writes-both, writes-as}
@@ -38,7 +38,7 @@ module _ (c : tie.After-multiple) where
   abbrev w2 : Pair
   w2 = s .args .w2
 
-  sized : Sized m w0 w2
+  sized : JoinSizes m w0 w2
   sized = s .pre .0
 
   s-is : c .multiple .result ≡ shift w0 w2

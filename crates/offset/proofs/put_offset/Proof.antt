@@ -14,9 +14,9 @@ use Rattle.refusal.specs.declared.Refusal.the-variants as R
 use Rattle.refusal.specs.Answers.{given}
 use Rattle.area.proofs.Areas.{fills-rest}
 use Rattle.area.proofs.Promises.{refused-in}
-use Rattle.root.specs.Roots.{quartic}
+use Rattle.root.specs.Promise.{quartic}
 use Rattle.curve.specs.Curves.{pointsOf}
-use Rattle.offset.specs.Offsets.{degreeOf, offsetCurve, offsetNumbers}
+use Rattle.offset.specs.Promise.{offsetDegree, offsetCurve, offsetNumbers}
 use Rattle.offset.specs.Steps.{RowsOf}
 use Rattle.offset.proofs.Turns.{few-points, rows-numbers}
 use Rattle.offset.proofs.put_offset.Statement.{statement}
@@ -56,7 +56,7 @@ module _ (c : tie.After-rows) where
   abbrev points : ℕ
   points = c .before .before .points-of .result
 
-  points-are : points ≡ suc (degreeOf (o .args .curve))
+  points-are : points ≡ suc (offsetDegree (o .args .curve))
   points-are = c .before .before .points-of .ensures
 
   room : 3 * points ≤ length area

@@ -21,21 +21,23 @@ same-length c = search needs
 
 returns : tie.Need-returns
 returns c =
-    let s = c .before .before .before .before .before .before .before .before .before .args in
-    let t = c .before .before .before .before .before .write-report .last .1 .0 in
+    let wrote = c .before .before .before .before .before in
+    let s = wrote .before .before .before .before .args in
+    let t = wrote .write-report .last .1 .0 in
     written-is (s .text .now) t (c .before .end .given .0 .0)
-    (subst (Reported (s .sheet .now) (s .text .now) t) (c .before .end .given .1) (c .before .before .before .before .before .write-report .ensures))
+    (subst (Reported (s .sheet .now) (s .text .now) t) (c .before .end .given .1) (wrote .write-report .ensures))
 
 same-length-2 : tie.Need-same-length-2
 same-length-2 c = search needs
 
 returns-2 : tie.Need-returns-2
 returns-2 c =
-    let s = c .before .before .before .before .before .before .before .before in
-    let t = c .before .before .before .before .write-report .last .1 .0 in
+    let wrote = c .before .before .before .before in
+    let s = wrote .before .before .before .before in
+    let t = wrote .write-report .last .1 .0 in
     absurd
     (room-enough (s .args .sheet .now) (s .args .text .now) t (c .enum-told .given .0 .0) (s .pre)
-    (subst (Reported (s .args .sheet .now) (s .args .text .now) t) (c .enum-told .given .1) (c .before .before .before .before .write-report .ensures)))
+    (subst (Reported (s .args .sheet .now) (s .args .text .now) t) (c .enum-told .given .1) (wrote .write-report .ensures)))
 
 pub report-of-spec : {M : Type 1} → statement M
 report-of-spec =

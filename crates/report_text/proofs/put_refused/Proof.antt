@@ -42,7 +42,8 @@ returns : tie.Need-returns
 returns c =
     let end = c .before .before in
     let place = end .before .before .before .before .before in
-    let number = place .before .before .before .before .before .before in
+    let between = place .before .before .before in
+    let number = between .before .before .before in
     writes-same (ap (λ (n : ℕ). bytes "refused " ++ decimal n) (number .before .number .ensures)) (number .put-labelled .ensures)
     then place .put-labelled2 .ensures
     then end .put .ensures

@@ -15,7 +15,7 @@ use Rattle.poly.specs.Terms.{Top}
 use Rattle.poly.proofs.Wholes.{wholes-domain}
 use Rattle.root.specs.declared.Quartic.{Quartic}
 use Rattle.root.specs.Search.{SmallRoot}
-use Rattle.root.specs.Roots.{nine, quartic, Sized, Small, Positive, IsWholeRoot}
+use Rattle.root.specs.Promise.{octic, quartic, Sized, Small, Positive, IsWholeRoot}
 use Rattle.root.proofs.Shifting.{raised-each, raised-top, root-constant, lowered-root, no-lowered-root}
 use Rattle.root.proofs.whole_root.Reads as whole-root
 use Rattle.root.proofs.whole_root.Kinds as whole-root-kinds
@@ -54,7 +54,7 @@ module _ (t : ℕ) where
   quartic-root-requires : lts.Need-quartic-root-requires (claims t) (whole-root-at t) whole-root.Post
   quartic-root-requires c κs =
       let (sized, top, low) = c .before .pre .1 in
-      (sized, subst (λ (l : ℕ). Top wholes (nine (c .before .args .m)) (l + l)) (c .if1 .taken) top)
+      (sized, subst (λ (l : ℕ). Top wholes (octic (c .before .args .m)) (l + l)) (c .if1 .taken) top)
 
   returns : lts.Need-returns (claims t) (whole-root-at t) whole-root.Post
   returns c = c .quartic-root .ensures
@@ -65,10 +65,10 @@ module _ (t : ℕ) where
   -- m and t² m
   module _ (c : lts.After-raised (claims t) (whole-root-at t) whole-root.Post) where
     abbrev M : List ℤ
-    M = nine (c .before .before .args .m)
+    M = octic (c .before .before .args .m)
 
     abbrev N : List ℤ
-    N = nine (c .raised .result)
+    N = octic (c .raised .result)
 
   add-whole-root : lts.Need-add-whole-root (claims t) (whole-root-at t) whole-root.Post
   add-whole-root c = omega (arith, c .before .before .pre .1 .2)

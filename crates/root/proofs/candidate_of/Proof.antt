@@ -10,9 +10,9 @@ use lib.Dec.{lit<}
 use lib.IntN.{ℤ, pos, _+ℤ_, _-ℤ_, +ℤ-idr}
 use mir.Syntax.{w64}
 use mir.Val.{toZ, ofZ}
-use Rattle.whole.specs.Number.{wholes}
-use Rattle.whole.specs.Poly.{at}
-use Rattle.whole.specs.Quotients.{Divisible}
+use Rattle.whole.specs.Number.{wholes, normSize}
+use Rattle.whole.specs.Coefficients.{at}
+use Rattle.whole.specs.Promise.{Divisible}
 use Rattle.whole.proofs.Bound.{Bounded, done, _▸_, bounds, fits, kept, read-back}
 use Rattle.whole.proofs.Linear.{linear, plus-parts}
 use Rattle.whole.proofs.Wholes.{readℤ, read-pos, ringℤ}
@@ -21,9 +21,10 @@ use Rattle.poly.proofs.Wholes.{twice-whole-some}
 use Rattle.root.specs.declared.Quartic.{Quartic}
 use Rattle.root.specs.declared.Coefficient.{Coefficient}
 use Rattle.root.specs.declared.Coefficient.the-variants.{Whole}
-use Rattle.root.specs.declared.Search.the-variants.{Ended}
+use Rattle.root.specs.declared.Search.the-variants.{None}
 use Rattle.root.specs.Search.{UpperRoot}
-use Rattle.root.specs.Roots.{nine, quartic, Small, IsCoefficient, IsSearch}
+use Rattle.root.specs.Promise.{octic, quartic, Small, rootSize}
+use Rattle.root.specs.Steps.{IsCoefficient, IsSearch}
 use Rattle.root.proofs.Coefficient.{the-type}
 use Rattle.root.proofs.Downward.{rest, Step, Begun, begun-none, begun-more, search-ends, search-finds}
 use Rattle.root.proofs.candidate_of.Statement.{statement}
@@ -34,7 +35,7 @@ module _ (c : tie.After-struct-told4) where
   o = c .before .before .before .before
 
   abbrev M : List ℤ
-  M = nine (o .args .m)
+  M = octic (o .args .m)
 
   abbrev s : ℤ
   s = o .args .s
@@ -55,7 +56,7 @@ module _ (c : tie.After-struct-told4) where
 
   -- and that the search ends where it is not the first of the three
   ends : (q : List ℤ) (k : ℕ) → k < 4 → Begun M s q (suc k) → (r : Coefficient) → Step M s q k r
-      → (tagOf the-type r ≡ 1) ⊎ (tagOf the-type r ≡ 2) → IsSearch M s Ended
+      → (tagOf the-type r ≡ 1) ⊎ (tagOf the-type r ≡ 2) → IsSearch M s None
   ends q k l b r h t =
       search-ends M s (o .pre .2) q k l b r h
       (λ y e. let f : tagOf the-type r ≡ 0 = ap (tagOf the-type) e in ⊎-elim (λ i. omega arith) (λ i. omega arith) t)
@@ -89,7 +90,7 @@ module _ (c : tie.After-known-told) where
   begun₃ : (x₀ x₁ x₂ : ℤ) (p : List ℤ) → Begun (M place₃) (s place₃) (x₀ ∷ x₁ ∷ x₂ ∷ q₃ ∷ p) 3
   begun₃ x₀ x₁ x₂ p = begun-more begun-none found₃
 
-  sizes₃ : Bounded (10000000000000 ∷ 20000000 ∷ []) (o place₃ .args .m .m6 ∷ q₃ ∷ [])
+  sizes₃ : Bounded (normSize ∷ rootSize ∷ []) (o place₃ .args .m .m6 ∷ q₃ ∷ [])
   sizes₃ = o place₃ .pre .0 6 ▸ found₃ .1 ▸ done
 
 mul-coefficient-of : tie.Need-mul-coefficient-of
@@ -136,7 +137,7 @@ module _ (c : tie.After-known-told2) where
   begun₂ : (x₀ x₁ : ℤ) (p : List ℤ) → Begun (M place₂) (s place₂) (x₀ ∷ x₁ ∷ q₂ ∷ q₃ after₃ ∷ p) 2
   begun₂ x₀ x₁ p = begun-more (begun₃ after₃ x₀ x₁ q₂ p) found₂
 
-  sizes₂ : Bounded (10000000000000 ∷ 20000000 ∷ 20000000 ∷ []) (o place₂ .args .m .m5 ∷ q₃ after₃ ∷ q₂ ∷ [])
+  sizes₂ : Bounded (normSize ∷ rootSize ∷ rootSize ∷ []) (o place₂ .args .m .m5 ∷ q₃ after₃ ∷ q₂ ∷ [])
   sizes₂ = o place₂ .pre .0 5 ▸ found₃ after₃ .1 ▸ found₂ .1 ▸ done
 
 mul-coefficient-of-2 : tie.Need-mul-coefficient-of-2
@@ -186,7 +187,7 @@ module _ (c : tie.After-known-told3) where
   begun₁ : (x₀ : ℤ) (p : List ℤ) → Begun (M place₁) (s place₁) (x₀ ∷ q₁ ∷ q₂ after₂ ∷ q₃ (after₃ after₂) ∷ p) 1
   begun₁ x₀ p = begun-more (begun₂ after₂ x₀ q₁ p) found₁
 
-  sizes₁ : Bounded (10000000000000 ∷ 20000000 ∷ 20000000 ∷ 20000000 ∷ []) (o place₁ .args .m .m4 ∷ q₃ (after₃ after₂) ∷ q₂ after₂ ∷ q₁ ∷ [])
+  sizes₁ : Bounded (normSize ∷ rootSize ∷ rootSize ∷ rootSize ∷ []) (o place₁ .args .m .m4 ∷ q₃ (after₃ after₂) ∷ q₂ after₂ ∷ q₁ ∷ [])
   sizes₁ = o place₁ .pre .0 4 ▸ found₃ (after₃ after₂) .1 ▸ found₂ after₂ .1 ▸ found₁ .1 ▸ done
 
 mul-coefficient-of-4 : tie.Need-mul-coefficient-of-4

@@ -6,7 +6,7 @@ use lib.IntN.{ℤ, natAbs, _*ℤ_}
 use mir.Syntax.{w64}
 use mir.Val.{toZ, ofZ}
 use mir.ValLaws.{toZ-ofZ}
-use Rattle.whole.specs.Quotients.{IsQuotient}
+use Rattle.whole.specs.Promise.{IsQuotient}
 use Rattle.root.proofs.coefficient_of.Statement.{statement}
 use Rattle.root.proofs.coefficient_of.Tie as tie
 

@@ -13,9 +13,10 @@ use lib.Signed.{_≤ℤ_, _<ℤ_}
 use mir.Syntax.{w64}
 use mir.Val.{SFits, toZ}
 use mir.ValLaws.{toZ-ofZ, toZ-pos}
-use Rattle.whole.specs.Number.{wholes, Tells}
-use Rattle.whole.specs.Poly.{at, Same, square}
-use Rattle.whole.specs.Roots.{IsRoot}
+use Rattle.whole.specs.Number.{wholes, Tells, normSize}
+use Rattle.whole.specs.Coefficients.{at}
+use Rattle.poly.specs.Polynomials.{Same, square}
+use Rattle.whole.specs.Promise.{IsRoot}
 use Rattle.whole.proofs.Bound.{fits-within}
 use Rattle.whole.proofs.Integers.{abs-negative, abs-times}
 use Rattle.whole.proofs.Linear.{linear}
@@ -25,10 +26,11 @@ use Rattle.whole.proofs.Wholes.{wholes-ring}
 use Rattle.poly.proofs.Lists.{square-same}
 use Rattle.poly.proofs.Roots.{root-lead}
 use Rattle.poly.proofs.Wholes.{wholes-domain, whole-zero?}
-use Rattle.root.specs.declared.Nine.{Nine}
+use Rattle.root.specs.declared.Octic.{Octic}
 use Rattle.root.specs.declared.Quartic.{Quartic}
 use Rattle.root.specs.Search.{Each, UpperRoot}
-use Rattle.root.specs.Roots.{nine, quartic, Small, Positive, IsSearch}
+use Rattle.root.specs.Promise.{octic, quartic, Small, Positive, rootSize}
+use Rattle.root.specs.Steps.{IsSearch}
 use Rattle.root.proofs.Candidates.{same-all, root-upper, upper-lead}
 use Rattle.root.proofs.Downward.{upper-root-once}
 use Rattle.root.proofs.quartic_root.Statement.{statement}
@@ -72,10 +74,10 @@ returns-2 c x b h =
     (sym (abs-times (at wholes x 4) (at wholes x 4)) ∙ ap natAbs (root-lead wholes-ring wholes-domain whole-zero? 4 (s .pre .1) x h))
 
 -- a square of at most 10^13
-root-size : (k : ℕ) → k * k ≤ 10000000000000 → k ≤ 20000000
-root-size k h = by (decLt 20000000 k)
+root-size : (k : ℕ) → k * k ≤ normSize → k ≤ rootSize
+root-size k h = by (decLt rootSize k)
   where
-    by : Dec (20000000 < k) → k ≤ 20000000
+    by : Dec (rootSize < k) → k ≤ rootSize
     by (yes l) = absurd (omega (arith, mul-le-mul l l))
     by (no l) = omega arith
 
@@ -84,7 +86,7 @@ module _ (c : tie.After-known-told) where
   abbrev o : tie.Start
   o = c .before .before .before .before .before .before
 
-  abbrev m : Nine
+  abbrev m : Octic
   m = o .args .m
 
   abbrev root : ℕ
@@ -96,7 +98,7 @@ module _ (c : tie.After-known-told) where
   lead : pos root *ℤ pos root ≡ m .m8
   lead = ap pos squared ∙ sym (nonneg-is (nonneg (c .before .before .before .before)))
 
-  small : root ≤ 20000000
+  small : root ≤ rootSize
   small = root-size root (omega (arith, squared, o .pre .0 8 .size))
 
   some : pos 0 <ℤ pos root
@@ -127,7 +129,7 @@ enum-told-2 c = search needs
 -- what was found below it
 module _ (c : tie.After-candidate-of) where
   abbrev M : List ℤ
-  M = nine (m (c .before))
+  M = octic (m (c .before))
 
   abbrev s : ℤ
   s = pos (root (c .before))

@@ -7,10 +7,10 @@ use lib.Dec.{lit<}
 use mir.Syntax.{w64}
 use mir.Val.{ofZ}
 use Rattle.whole.specs.Number.{wholes}
-use Rattle.whole.specs.Poly.{at}
+use Rattle.whole.specs.Coefficients.{at}
 use Rattle.whole.proofs.Machine.{same-bits}
 use Rattle.root.specs.Search.{SameBelow}
-use Rattle.root.specs.Roots.{nine}
+use Rattle.root.specs.Promise.{octic}
 use Rattle.root.proofs.same_below.Statement.{statement}
 use Rattle.root.proofs.same_below.Tie as tie
 
@@ -28,9 +28,9 @@ returns-4 c h = c .if4 .taken (ap (ofZ w64) (h 0 (lit< tt)))
 
 -- the four tests together
 abbrev Bits : tie.Start → ℕ → Type 0
-Bits s k = ofZ w64 (at wholes (nine (s .args .a)) k) ≡ ofZ w64 (at wholes (nine (s .args .b)) k)
+Bits s k = ofZ w64 (at wholes (octic (s .args .a)) k) ≡ ofZ w64 (at wholes (octic (s .args .b)) k)
 
-from-bits : (s : tie.Start) → Bits s 0 → Bits s 1 → Bits s 2 → Bits s 3 → SameBelow wholes 4 (nine (s .args .a)) (nine (s .args .b))
+from-bits : (s : tie.Start) → Bits s 0 → Bits s 1 → Bits s 2 → Bits s 3 → SameBelow wholes 4 (octic (s .args .a)) (octic (s .args .b))
 from-bits s e0 e1 e2 e3 zero l = same-bits (search needs) (search needs) e0
 from-bits s e0 e1 e2 e3 (suc zero) l = same-bits (search needs) (search needs) e1
 from-bits s e0 e1 e2 e3 (suc (suc zero)) l = same-bits (search needs) (search needs) e2

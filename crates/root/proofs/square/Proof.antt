@@ -4,7 +4,7 @@ use mathlib.Core.List.{[], _∷_}
 use Rattle.whole.proofs.Wholes.{readℤ, read-pos}
 use Rattle.whole.proofs.Bound.{Bounded, done, _▸_, bounds, fits, kept}
 use Rattle.root.specs.declared.Quartic.{Quartic}
-use Rattle.root.specs.Roots.{IsSquare}
+use Rattle.root.specs.Promise.{IsSquare, rootSize}
 use Rattle.root.proofs.Squared.{square-is}
 use Rattle.root.proofs.square.Statement.{statement}
 use Rattle.root.proofs.square.Tie as tie
@@ -16,7 +16,7 @@ module _ (c : tie.After-struct-told5) where
   abbrev q : Quartic
   q = o .args .q
 
-  sizes : Bounded (20000000 ∷ 20000000 ∷ 20000000 ∷ 20000000 ∷ 20000000 ∷ []) (q .q0 ∷ q .q1 ∷ q .q2 ∷ q .q3 ∷ q .q4 ∷ [])
+  sizes : Bounded (rootSize ∷ rootSize ∷ rootSize ∷ rootSize ∷ rootSize ∷ []) (q .q0 ∷ q .q1 ∷ q .q2 ∷ q .q3 ∷ q .q4 ∷ [])
   sizes = o .pre 0 ▸ o .pre 1 ▸ o .pre 2 ▸ o .pre 3 ▸ o .pre 4 ▸ done
 
 mul-d0 : tie.Need-mul-d0

@@ -6,12 +6,13 @@ use mathlib.Core.List.{List, _++_}
 use Prim.Native.Nat.{ℕ, _-_, _≤_}
 use native.Mathlib.Omega.{arith}
 use lib.ListN.{length, drop, set, replicate, length-set}
+use Rattle.record.specs.Records.{erased}
 use Rattle.sheet.proofs.Changed.{erase-long, erase-short}
 use Rattle.sheet.proofs.erase.Statement.{statement}
 use Rattle.sheet.proofs.erase.Tie as tie
 
 abbrev Inv-loop : tie.InvT-loop
-Inv-loop sheet₀ i₀ sheet i = (sheet ≡ replicate i 255 ++ drop i sheet₀) × (length sheet ≡ length sheet₀) × (i ≤ length sheet₀)
+Inv-loop sheet₀ i₀ sheet i = (sheet ≡ replicate i erased ++ drop i sheet₀) × (length sheet ≡ length sheet₀) × (i ≤ length sheet₀)
 
 abbrev μ-loop : tie.MeasureT-loop
 μ-loop sheet₀ i₀ sheet i = length sheet₀ - i
@@ -23,7 +24,7 @@ returns : tie.Need-returns Inv-loop μ-loop
 returns c = erase-long _ (c .before .if1 .taken) (c .nowhere .ensures)
 
 loop-holds : tie.Need-loop-holds Inv-loop μ-loop
-loop-holds c = (fill-none _ 255, refl, omega arith)
+loop-holds c = (fill-none _ erased, refl, omega arith)
 
 slice-write-sheet : tie.Need-slice-write-sheet Inv-loop μ-loop
 slice-write-sheet c = search needs
@@ -39,7 +40,7 @@ loop-again c =
     let i = c .before .loop .i in
     let v = c .before .loop .inv in
     let s₀ = c .before .before .before .before .args .sheet .now in
-    (ap (λ (l : List ℕ). set l i 255) (v .0) ∙ fill-more i 255 s₀ (omega arith), simp length-set (v .1), omega arith)
+    (ap (λ (l : List ℕ). set l i erased) (v .0) ∙ fill-more i erased s₀ (omega arith), simp length-set (v .1), omega arith)
 
 same-length : tie.Need-same-length Inv-loop μ-loop
 same-length c = search needs

@@ -1,6 +1,6 @@
 -- `find` meets its contract: the part of the sheet where the curve's record is located.
 use borrow.Author.Needs.{needs}
-use mathlib.Core.Path.{_≡_, ap, _∙_, subst}
+use mathlib.Core.Path.{_≡_, refl, sym, ap, _∙_, subst}
 use Prim.Native.Nat.{ℕ, _+_, _-_}
 use native.Mathlib.Omega.{arith}
 use lib.ListN.{take, drop}
@@ -52,12 +52,18 @@ returns : tie.Need-returns
 returns c =
     let k = c .before in
     let n : place k + long k - place k ≡ long k = omega arith in
-    ap (λ (m : ℕ). take m (drop (place k) (start k .args .sheet .now))) n ∙ located-found _ _ _ _ (located k) .2
+    let h = located-found _ _ _ _ (located k) in
+    record {
+      bytes = ap (λ (m : ℕ). take m (drop (place k) (start k .args .sheet .now))) n ∙ h .2;
+      block = refl;
+      place = omega (arith, h .3);
+    }
 
 returns-2 : tie.Need-returns-2
 returns-2 c =
     let s = c .before .before .before .before .before in
-    refused-found _ _ (subst (Locates (s .args .sheet .now) (s .args .number)) (c .before .enum-told .given .1) (c .before .before .before .locate .ensures))
+    let h = refused-found _ _ (subst (Locates (s .args .sheet .now) (s .args .number)) (c .before .enum-told .given .1) (c .before .before .before .locate .ensures)) in
+    record { bytes = h .0; block = refl; place = omega (arith, h .1) }
 
 pub find-spec : {M : Type 1} → statement M
 find-spec =

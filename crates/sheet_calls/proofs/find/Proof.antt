@@ -9,6 +9,7 @@ use mir.Syntax.{w64}
 use mir.ValLaws.{toZ-pos}
 use Rattle.refusal.specs.Answers.{given, with-given}
 use Rattle.refusal.proofs.Answers.{with-twice}
+use Rattle.record.specs.Records.{longest}
 use Rattle.sheet.specs.declared.Location.the-variants as location
 use Rattle.sheet.specs.Survey.{chosen}
 use Rattle.sheet.specs.Promise.{placeOf, Locates}
@@ -35,7 +36,7 @@ module _ (c : tie.After-known-told) where
       let s = c .before .before .before .before .before .args in
       subst (Locates (s .s .now) (s .number)) (c .before .place .given .1) (c .before .before .before .locate .ensures)
 
-  small : (place ≤ 4096) × (long ≤ 4096)
+  small : (place ≤ longest) × (long ≤ longest)
   small = let h = located-found _ _ _ _ found in (omega (arith, h .0, h .1), omega (arith, h .0, h .1))
 
 cast-t11 : tie.Need-cast-t11

@@ -6,7 +6,7 @@ use mathlib.Core.List.{List}
 use Prim.Native.Nat.{ℕ, _<_}
 use native.Mathlib.Omega.{arith}
 use lib.ListN.{length}
-use Rattle.text.specs.Steps.{Holds}
+use Rattle.text.specs.Steps.{HoldsText}
 use Rattle.text.proofs.Held.{ends-written, ends-full}
 use Rattle.text.proofs.ended.Statement.{statement}
 use Rattle.text.proofs.ended.Tie as tie
@@ -46,12 +46,12 @@ same-length-2 : tie.Need-same-length-2
 same-length-2 c = search needs
 
 -- no text is held up to this place, or it did not fit
-too-long : (c : tie.At-match-came) → let a = c .before .before .args in (text : List ℕ) → Holds (a .area .now) text (a .place) → length (a .area .now) < length text
+too-long : (c : tie.At-match-came) → let a = c .before .before .args in (text : List ℕ) → HoldsText (a .area .now) text (a .place) → length (a .area .now) < length text
 too-long c text h =
     let area = c .before .before .args .area .now in
     ⊎-elim
-    (λ w. let held = subst (Holds area text) (w .1 .given .1) h in absurd (omega (arith, w .3 .left, held .1)))
-    (λ w. subst (Holds area text) (w .1 .given .1) h)
+    (λ w. let held = subst (HoldsText area text) (w .1 .given .1) h in absurd (omega (arith, w .3 .left, held .1)))
+    (λ w. subst (HoldsText area text) (w .1 .given .1) h)
     (c .match .came)
 
 returns-2 : tie.Need-returns-2

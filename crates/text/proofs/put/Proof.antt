@@ -37,9 +37,11 @@ same-length c = search needs
 
 returns-2 : tie.Need-returns-2 Inv-loop μ-loop
 returns-2 c =
-    let s = c .before .before .before .before .before .before .args in
-    let l = c .before .before .loop in
-    subst (λ (p : Place). Writes (s .area .now) p (s .text .now) (l .area) Full) (sym (c .before .before .before .before .place .given .1))
+    let turn = c .before .before in
+    let known = turn .before .before in
+    let s = known .before .before .args in
+    let l = turn .loop in
+    subst (λ (p : Place). Writes (s .area .now) p (s .text .now) (l .area) Full) (sym (known .place .given .1))
     (copied-short (s .area .now) (s .text .now) (l .area) _ (l .at) (l .i) (l .inv .0) (l .inv .2) (omega arith) (c .before .loop-test .taken))
 
 shared-slice-read-area : tie.Need-shared-slice-read-area Inv-loop μ-loop
@@ -59,9 +61,11 @@ loop-less c = search needs
 
 loop-again : tie.Need-loop-again Inv-loop μ-loop
 loop-again c =
-    let s = c .before .before .before .before .before .before .before .args in
-    let l = c .before .before .before .loop in
-    let start = c .before .before .before .before .before .place .given .0 .0 in (
+    let turn = c .before .before .before in
+    let known = turn .before .before in
+    let s = known .before .before .args in
+    let l = turn .loop in
+    let start = known .place .given .0 .0 in (
       omega arith,
       omega arith,
       length-set (l .area) (l .at) _ ∙ l .inv .2,

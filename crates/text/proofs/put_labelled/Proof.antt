@@ -14,7 +14,7 @@ same-length : tie.Need-same-length
 same-length c = search needs
 
 returns : tie.Need-returns
-returns c = c .before .before .before .before .before .before .put .ensures then c .before .before .put-number .ensures
+returns c = let number = c .before .before in number .before .before .before .before .put .ensures then number .put-number .ensures
 
 pub put-labelled-spec : {M : Type 1} → statement M
 put-labelled-spec = tie.close (tie.spec put-requires put-number-requires same-length returns)

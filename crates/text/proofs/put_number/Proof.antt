@@ -25,11 +25,14 @@ same-length c = search needs
 
 returns : tie.Need-returns
 returns c =
-    let d = c .before .before .before .before .before .decimal in
+    let put = c .before .before in
+    let made = put .before .before .before in
+    let d = made .decimal in
+    let s = made .before .before .before .args in
     subst
-    (λ (x : List ℕ). Writes (c .before .before .before .before .before .before .before .before .args .area .now) (c .before .before .before .before .before .before .before .before .args .place) x (c .before .before .put .last .0) (c .before .before .put .result))
+    (λ (x : List ℕ). Writes (s .area .now) (s .place) x (put .put .last .0) (put .put .result))
     (d .ensures .1 .1 ∙ decimal-is _ _ (d .ensures .1 .0))
-    (c .before .before .put .ensures)
+    (put .put .ensures)
 
 pub put-number-spec : {M : Type 1} → statement M
 put-number-spec =

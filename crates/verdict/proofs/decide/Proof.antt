@@ -3,13 +3,13 @@ use mathlib.Core.Path.{sym, subst}
 use mathlib.Core.List.{List, []}
 use borrow.Author.Needs.{needs}
 use Rattle.whole.specs.Number.{Tells}
-use Rattle.whole.specs.Poly.{Same, scaled, square}
+use Rattle.poly.specs.Polynomials.{Same, scaled, square}
 use Rattle.whole.proofs.Flags.{untold}
 use Rattle.pair.specs.declared.Pair.{Pair}
 use Rattle.pair.specs.Pairs.{pairs}
-use Rattle.curve.specs.Curves.{powerForm}
+use Rattle.bernstein.specs.Powers.{powerForm}
+use Rattle.bernstein.proofs.PowerForms.{powerForm-zero}
 use Rattle.curve.specs.Steps.{legsOf}
-use Rattle.curve.proofs.PowerForms.{powerForm-zero}
 use Rattle.verdict.specs.declared.rules.Generator.{Generator}
 use Rattle.verdict.specs.Verdicts.{quadratic, Still}
 use Rattle.verdict.specs.Steps.{Generates, IsGeneration, OfCurve}

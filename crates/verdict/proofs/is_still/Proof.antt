@@ -3,12 +3,13 @@ use mathlib.Core.Path.{sym, subst}
 use mathlib.Core.List.{[]}
 use borrow.Author.Needs.{needs}
 use Rattle.whole.specs.Number.{Tells}
-use Rattle.whole.specs.Poly.{Same}
+use Rattle.poly.specs.Polynomials.{Same}
 use Rattle.whole.proofs.Flags.{told, untold, told-map}
 use Rattle.pair.specs.Pairs.{pairs}
 use Rattle.curve.specs.declared.Legs.{Legs}
 use Rattle.curve.specs.Steps.{legsOf}
-use Rattle.verdict.proofs.Known.{three-none, five-none}
+use Rattle.pair.proofs.Parts.{three-none}
+use Rattle.verdict.proofs.Known.{five-none}
 use Rattle.verdict.proofs.is_still.Statement.{statement}
 use Rattle.verdict.proofs.is_still.Tie as tie
 

@@ -5,7 +5,8 @@ use mathlib.Core.Logic.{inl}
 use borrow.Author.Needs.{needs}
 use Rattle.whole.proofs.Flags.{told, untold}
 use Rattle.pair.specs.declared.Pair.{Pair}
-use Rattle.curve.specs.Curves.{pointsOf, InRange, powerForm, legPolynomial}
+use Rattle.bernstein.specs.Powers.{powerForm}
+use Rattle.curve.specs.Curves.{pointsOf, InRange, legPolynomial}
 use Rattle.curve.proofs.LegPolynomial.{pointsOf-length}
 use Rattle.verdict.specs.Verdicts.{Holds}
 use Rattle.verdict.proofs.Refusals.{recognised-by}

@@ -3,9 +3,9 @@ use mathlib.Core.Path.{refl}
 use mathlib.Core.List.{List}
 use borrow.Author.Needs.{needs}
 use Rattle.whole.proofs.Flags.{untold}
+use Rattle.bernstein.specs.Powers.{powerForm}
 use Rattle.curve.specs.declared.Legs.{Legs}
 use Rattle.curve.specs.declared.Legs.the-variants.{Cubic, Quintic}
-use Rattle.curve.specs.Curves.{powerForm}
 use Rattle.curve.specs.Steps.{legsOf}
 use Rattle.verdict.proofs.Known.{legs-small}
 use Rattle.verdict.proofs.Decided.{last-refused}

@@ -3,19 +3,19 @@ use mathlib.Core.Logic.{_≢_}
 use Prim.Native.Nat.{ℕ, _+_, _/_, _≤_, _<_}
 use native.Mathlib.Nat.{mul-le-mul, div-lt-iff-lt-mul}
 use native.Mathlib.Omega.{arith}
-use Rattle.whole.specs.Roots.{Above}
+use Rattle.whole.specs.Steps.{Guess}
 use Rattle.whole.proofs.Squares.{root-positive, newton-above}
 use Rattle.whole.proofs.floor_root.Statement.{statement}
 use Rattle.whole.proofs.floor_root.Tie as tie
 
 abbrev Inv-loop : tie.InvT-loop
-Inv-loop n r₀ r = Above n r
+Inv-loop n r₀ r = Guess n r
 
 abbrev μ-loop : tie.MeasureT-loop
 μ-loop n r₀ r = r
 
 -- one step of Newton's
-step : (n r : ℕ) → n ≢ 0 → Above n r → n / r < r → Above n ((r + n / r) / 2)
+step : (n r : ℕ) → n ≢ 0 → Guess n r → n / r < r → Guess n ((r + n / r) / 2)
 step n r h inv l =
     let a = newton-above n r (inv .positive) in
     record { positive = root-positive n ((r + n / r) / 2) h a; above = a; small = omega (arith, inv .small) }

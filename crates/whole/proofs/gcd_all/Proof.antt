@@ -11,7 +11,7 @@ use lib.ListN.{length, drop, getD, drop-of-length-le}
 use lib.Seq.{drop-cons}
 use mir.Syntax.{w64}
 use mir.ValLaws.{toZ-ofZ}
-use Rattle.whole.specs.Poly.{Divides, Greatest}
+use Rattle.whole.specs.Coefficients.{Divides, Greatest}
 use Rattle.whole.specs.Number.{wholes}
 use Rattle.whole.proofs.Integers.{*ℤ-1}
 use Rattle.whole.proofs.Wholes.{wholes-ring}

@@ -10,7 +10,7 @@ use lib.Signed.{quotZ, remZ, _≤ℤ_, _<ℤ_}
 use mir.Syntax.{w64}
 use mir.Val.{SFits}
 use mir.ValLaws.{toZ-ofZ}
-use Rattle.whole.specs.Quotients.{Nearest}
+use Rattle.whole.specs.Promise.{Nearest}
 use Rattle.whole.proofs.Integers.{abs-zero}
 use Rattle.whole.proofs.Wholes.{readℤ, read-pos, read-negsuc, atomsℤ, ringℤ}
 use Rattle.whole.proofs.Linear.{linear, plus-parts, minus-parts, times-parts, negative-parts, abs-parts, one-part}

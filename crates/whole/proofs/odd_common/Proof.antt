@@ -4,7 +4,7 @@ use mathlib.Core.Logic.{_↔_, Iff·rfl, Iff·trans}
 use Prim.Native.Nat.{ℕ, _+_, _%_}
 use native.Mathlib.Omega.{arith}
 use lib.IntN.{ℤ, pos}
-use Rattle.whole.specs.Poly.{Divides}
+use Rattle.whole.specs.Coefficients.{Divides}
 use Rattle.whole.specs.Number.{wholes}
 use Rattle.whole.proofs.Evens.{Both, both-turned, odd-part-le, odd-step, shared-greatest}
 use Rattle.whole.proofs.odd_common.Statement.{statement}

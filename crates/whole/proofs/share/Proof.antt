@@ -5,7 +5,7 @@ use native.Mathlib.Omega.{arith}
 use lib.Dec.{lit<}
 use lib.IntN.{ℤ, pos, natAbs}
 use lib.Signed.{quotZ}
-use Rattle.whole.specs.Number.{Within}
+use Rattle.whole.specs.Number.{Within, normSize}
 use Rattle.whole.proofs.Linear.{linear}
 use Rattle.whole.proofs.Bound.{fits-within, read-back}
 use Rattle.whole.proofs.Machine.{nonzero-bits}
@@ -20,7 +20,7 @@ module _ (c : tie.Start) where
   nonzero : c .args .d ≢ pos 0
   nonzero e = let h = c .pre .positive in omega linear
 
-  small : Within 10000000000000 q
+  small : Within normSize q
   small = record { size = omega (arith, c .pre .n-small .size, abs-quotient (c .args .n) (c .args .d), div-le-self (natAbs (c .args .n)) (natAbs (c .args .d))) }
 
 div-result : tie.Need-div-result

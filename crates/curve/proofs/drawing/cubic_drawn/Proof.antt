@@ -1,13 +1,13 @@
 -- `drawing::cubic_drawn` meets its contract: by the table of differences.
-use mathlib.Core.Path.{_≡_, sym, ap, _∙_, subst}
+use mathlib.Core.Path.{sym, ap, _∙_, subst}
 use mathlib.Core.List.{List, [], _∷_}
 use lib.Dec.{lit≤}
 use lib.IntN.{pos}
-use Rattle.whole.specs.Poly.{Same}
+use Rattle.poly.specs.Polynomials.{Same}
 use Rattle.pair.specs.declared.Pair.{Pair}
 use Rattle.pair.specs.Pairs.{pairs, multiple}
 use Rattle.pair.proofs.Parts.{wider, minus-within}
-use Rattle.curve.specs.Curves.{powerForm}
+use Rattle.bernstein.specs.Powers.{powerForm}
 use Rattle.curve.proofs.Differences.{cubic-drawn}
 use Rattle.curve.proofs.drawing.cubic_drawn.Statement.{statement}
 use Rattle.curve.proofs.drawing.cubic_drawn.Tie as tie

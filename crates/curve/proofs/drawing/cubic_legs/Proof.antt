@@ -1,21 +1,23 @@
 -- `drawing::cubic_legs` meets its contract: leg by leg.
-use mathlib.Core.Path.{_≡_, refl}
-use mathlib.Core.List.{List, [], _∷_}
+use mathlib.Core.List.{[], _∷_}
 use lib.Dec.{lit≤}
-use Rattle.pair.specs.declared.Pair.{Pair}
 use Rattle.pair.proofs.Parts.{wider}
-use Rattle.curve.specs.Curves.{differences}
+use Rattle.bernstein.specs.Powers.{differences}
 use Rattle.curve.proofs.drawing.cubic_legs.Statement.{statement}
 use Rattle.curve.proofs.drawing.cubic_legs.Tie as tie
 
+-- where the points have been copied
+abbrev start : tie.After-p3 → tie.Start
+start c = c .before .before .before .before
+
 difference-requires : tie.Need-difference-requires
-difference-requires c κs = let r = c .before .before .before .before .pre in (wider (lit≤ tt) (r .1 .0), wider (lit≤ tt) (r .0))
+difference-requires c κs = let r = start c .pre in (wider (lit≤ tt) (r .1 .0), wider (lit≤ tt) (r .0))
 
 difference-requires-2 : tie.Need-difference-requires-2
-difference-requires-2 c κs = let r = c .before .before .before .before .before .pre in (wider (lit≤ tt) (r .1 .1 .0), wider (lit≤ tt) (r .1 .0))
+difference-requires-2 c κs = let r = start (c .before) .pre in (wider (lit≤ tt) (r .1 .1 .0), wider (lit≤ tt) (r .1 .0))
 
 difference-requires-3 : tie.Need-difference-requires-3
-difference-requires-3 c κs = let r = c .before .before .before .before .before .before .pre in (wider (lit≤ tt) (r .1 .1 .1 .0), wider (lit≤ tt) (r .1 .1 .0))
+difference-requires-3 c κs = let r = start (c .before .before) .pre in (wider (lit≤ tt) (r .1 .1 .1 .0), wider (lit≤ tt) (r .1 .1 .0))
 
 returns : tie.Need-returns
 unfolding differences

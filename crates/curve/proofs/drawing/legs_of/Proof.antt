@@ -2,7 +2,8 @@
 use mathlib.Core.Path.{_≡_, sym, subst}
 use borrow.Author.Needs.{needs}
 use Rattle.curve.specs.declared.Curve.{Curve}
-use Rattle.curve.specs.Curves.{pointsOf, InRange, differences}
+use Rattle.bernstein.specs.Powers.{differences}
+use Rattle.curve.specs.Curves.{pointsOf, InRange}
 use Rattle.curve.specs.Steps.{legsOf}
 use Rattle.curve.proofs.drawing.legs_of.Statement.{statement}
 use Rattle.curve.proofs.drawing.legs_of.Tie as tie

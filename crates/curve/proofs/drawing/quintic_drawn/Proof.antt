@@ -1,13 +1,13 @@
 -- `drawing::quintic_drawn` meets its contract: by the table of differences.
-use mathlib.Core.Path.{_≡_, sym, ap, ap₂, _∙_, subst}
+use mathlib.Core.Path.{sym, ap, ap₂, _∙_, subst}
 use mathlib.Core.List.{List, [], _∷_}
 use lib.Dec.{lit≤}
 use lib.IntN.{pos}
-use Rattle.whole.specs.Poly.{Same}
+use Rattle.poly.specs.Polynomials.{Same}
 use Rattle.pair.specs.declared.Pair.{Pair}
 use Rattle.pair.specs.Pairs.{pairs, minus, multiple, PartsWithin}
 use Rattle.pair.proofs.Parts.{wider, minus-within}
-use Rattle.curve.specs.Curves.{powerForm}
+use Rattle.bernstein.specs.Powers.{powerForm}
 use Rattle.curve.specs.Steps.{secondOf}
 use Rattle.curve.proofs.Differences.{quintic-drawn, second-within}
 use Rattle.curve.proofs.drawing.quintic_drawn.Statement.{statement}

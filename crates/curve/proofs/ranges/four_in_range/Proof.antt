@@ -1,29 +1,29 @@
 -- `ranges::four_in_range` meets its contract.
-use Rattle.whole.proofs.Linear.{linear}
+use borrow.Author.Needs.{needs}
 use Rattle.whole.proofs.Flags.{told, untold}
 use Rattle.curve.proofs.ranges.four_in_range.Statement.{statement}
 use Rattle.curve.proofs.ranges.four_in_range.Tie as tie
 
 within-requires : tie.Need-within-requires
-within-requires c κs = omega linear
+within-requires c κs = search needs
 
 returns : tie.Need-returns
 returns c h = untold (c .before .within .result) (c .before .within .ensures) (c .if1 .taken) (h .0)
 
 within-requires-2 : tie.Need-within-requires-2
-within-requires-2 c κs = omega linear
+within-requires-2 c κs = search needs
 
 returns-2 : tie.Need-returns-2
 returns-2 c h = untold (c .before .within2 .result) (c .before .within2 .ensures) (c .if2 .taken) (h .1 .0)
 
 within-requires-3 : tie.Need-within-requires-3
-within-requires-3 c κs = omega linear
+within-requires-3 c κs = search needs
 
 returns-3 : tie.Need-returns-3
 returns-3 c h = untold (c .before .within3 .result) (c .before .within3 .ensures) (c .if3 .taken) (h .1 .1 .0)
 
 within-requires-4 : tie.Need-within-requires-4
-within-requires-4 c κs = omega linear
+within-requires-4 c κs = search needs
 
 returns-4 : tie.Need-returns-4
 returns-4 c h = untold (c .before .within4 .result) (c .before .within4 .ensures) (c .if4 .taken) (h .1 .1 .1 .0)

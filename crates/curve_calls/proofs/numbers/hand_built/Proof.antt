@@ -3,7 +3,7 @@ use borrow.Author.Needs.{needs}
 use mathlib.Core.Path.{sym, ap}
 use Rattle.refusal.specs.Answers.{with-given}
 use Rattle.build.specs.declared.BuildAnswer.{BuildAnswer}
-use Rattle.build.specs.Builds.{answerOfBuilt}
+use Rattle.build.specs.Promise.{answerOfBuilt}
 use Rattle.hand.proofs.Areas.{hands-same}
 use Rattle.curve_calls.specs.Promise.{builtNumbers}
 use Rattle.curve_calls.proofs.numbers.hand_built.Statement.{statement}

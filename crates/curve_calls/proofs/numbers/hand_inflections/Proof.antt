@@ -11,7 +11,7 @@ use mir.Val.{toZ, boolByte}
 use mir.ValLaws.{toZ-pos}
 use Rattle.refusal.specs.Answers.{given, with-given}
 use Rattle.measure.specs.declared.InflectionAnswer.{InflectionAnswer}
-use Rattle.measure.specs.Promises.{answerOfInflections}
+use Rattle.measure.specs.Promise.{answerOfInflections}
 use Rattle.record.proofs.Signs.{kept}
 use Rattle.hand.proofs.Areas.{hands-same}
 use Rattle.curve_calls.specs.Promise.{inflectionNumbers}

@@ -3,7 +3,7 @@ use borrow.Author.Needs.{needs}
 use mathlib.Core.Path.{refl, sym, ap, _∙_}
 use Rattle.refusal.specs.Answers.{given, with-given}
 use Rattle.measure.specs.declared.LengthAnswer.{LengthAnswer}
-use Rattle.measure.specs.Promises.{answerOfLength}
+use Rattle.measure.specs.Promise.{answerOfLength}
 use Rattle.record.proofs.Signs.{kept}
 use Rattle.hand.proofs.Areas.{hands-same}
 use Rattle.curve_calls.specs.Promise.{lengthNumbers}

@@ -7,7 +7,7 @@ use mir.ValLaws.{toZ-pos}
 use Rattle.refusal.specs.declared.Fault.{Fault}
 use Rattle.refusal.specs.Answers.{refused}
 use Rattle.join.specs.declared.JoinAnswer.{JoinAnswer}
-use Rattle.join.specs.Listing.{answerOfJoins}
+use Rattle.join.specs.Promise.{answerOfJoins}
 use Rattle.record.proofs.Signs.{settled}
 use Rattle.hand.specs.Promise.{coded as codeOf}
 use Rattle.curve_calls.proofs.numbers.join_count.Statement.{statement}

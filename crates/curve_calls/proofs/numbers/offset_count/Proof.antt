@@ -7,7 +7,7 @@ use mir.ValLaws.{toZ-pos}
 use Rattle.refusal.specs.declared.Fault.{Fault}
 use Rattle.refusal.specs.Answers.{refused}
 use Rattle.offset.specs.declared.OffsetAnswer.{OffsetAnswer}
-use Rattle.offset.specs.Offsets.{answerOfOffset}
+use Rattle.offset.specs.Promise.{answerOfOffset}
 use Rattle.record.proofs.Signs.{settled}
 use Rattle.hand.specs.Promise.{coded as codeOf}
 use Rattle.curve_calls.proofs.numbers.offset_count.Statement.{statement}

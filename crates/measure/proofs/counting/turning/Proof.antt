@@ -1,23 +1,31 @@
 -- `counting::turning` meets its contract: three cross products, each within its bound.
 use mathlib.Core.Path.{_≡_, refl, sym, ap, _∙_, subst}
+use Prim.Native.Nat.{_^_}
+use lib.Dec.{lit≤}
 use lib.IntN.{ℤ, pos, _*ℤ_}
 use mir.Syntax.{w64}
 use mir.Val.{toZ, ofZ}
 use Rattle.whole.specs.Number.{Within}
 use Rattle.whole.proofs.Wholes.{readℤ, read-pos}
 use Rattle.whole.proofs.Bound.{done, _▸_, bounds, fits, kept, read-back}
+use Rattle.pair.specs.declared.Pair.{Pair}
+use Rattle.pair.specs.Pairs.{PartsWithin}
+use Rattle.pair.proofs.Parts.{wider}
 use Rattle.measure.proofs.Sizes.{cross-within}
 use Rattle.measure.proofs.counting.turning.Statement.{statement}
 use Rattle.measure.proofs.counting.turning.Tie as tie
 
+small : {a b : Pair} → PartsWithin 2000 a → PartsWithin 2000 b → PartsWithin (2 ^ 30) a × PartsWithin (2 ^ 30) b
+small h k = (wider (lit≤ tt) h, wider (lit≤ tt) k)
+
 cross-requires : tie.Need-cross-requires
-cross-requires c κs = let s = c .before .before .before in (s .pre 0, s .pre 1)
+cross-requires c κs = let s = c .before .before .before in small (s .pre 0) (s .pre 1)
 
 cross-requires-2 : tie.Need-cross-requires-2
-cross-requires-2 c κs = let s = c .before .before .before .before in (s .pre 0, s .pre 2)
+cross-requires-2 c κs = let s = c .before .before .before .before in small (s .pre 0) (s .pre 2)
 
 cross-requires-3 : tie.Need-cross-requires-3
-cross-requires-3 c κs = let s = c .before .before .before .before .before in (s .pre 1, s .pre 2)
+cross-requires-3 c κs = let s = c .before .before .before .before .before in small (s .pre 1) (s .pre 2)
 
 module _ (c : tie.After-cross3) where
   abbrev s : tie.Start

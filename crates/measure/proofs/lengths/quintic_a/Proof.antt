@@ -3,6 +3,7 @@ use mathlib.Core.Path.{refl}
 use mathlib.Core.List.{[], _∷_}
 use Rattle.whole.proofs.Wholes.{readℤ, read-pos}
 use Rattle.whole.proofs.Bound.{Bounded, done, _▸_, bounds, fits, kept}
+use Rattle.root.specs.Promise.{rootSize}
 use Rattle.measure.proofs.lengths.quintic_a.Statement.{statement}
 use Rattle.measure.proofs.lengths.quintic_a.Tie as tie
 
@@ -10,7 +11,7 @@ module _ (c : tie.After-struct-told5) where
   abbrev s : tie.Start
   s = c .before .before .before .before .before
 
-  sizes : Bounded (20000000 ∷ 20000000 ∷ 20000000 ∷ 20000000 ∷ 20000000 ∷ [])
+  sizes : Bounded (rootSize ∷ rootSize ∷ rootSize ∷ rootSize ∷ rootSize ∷ [])
       (s .args .q .q0 ∷ s .args .q .q1 ∷ s .args .q .q2 ∷ s .args .q .q3 ∷ s .args .q .q4 ∷ [])
   sizes = s .pre 0 ▸ s .pre 1 ▸ s .pre 2 ▸ s .pre 3 ▸ s .pre 4 ▸ done
 

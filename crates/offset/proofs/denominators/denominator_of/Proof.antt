@@ -7,6 +7,7 @@ use mir.ValLaws.{toZ-ofZ}
 use Rattle.whole.specs.Number.{Within}
 use Rattle.whole.proofs.Flags.{told, untold}
 use Rattle.curve.specs.Curves.{pointsOf}
+use Rattle.curve.specs.Sizes.{coordinateReach}
 use Rattle.verdict.specs.declared.Preimage.{Preimage}
 use Rattle.verdict.specs.declared.PreimageAnswer.the-variants as P
 use Rattle.verdict.specs.Promise.{Preimaged}
@@ -14,8 +15,8 @@ use Rattle.offset.proofs.Answers.{root-asked, denominated-beyond, denom
 use Rattle.offset.proofs.denominators.denominator_of.Statement.{statement}
 use Rattle.offset.proofs.denominators.denominator_of.Tie as tie
 
-in-range-requires : tie.Need-in-range-requires
-in-range-requires c κs = search needs
+within-requires : tie.Need-within-requires
+within-requires c κs = search needs
 
 h-kept : (c : tie.Start) → toZ w64 (ofZ w64 (c .args .h)) ≡ c .args .h
 h-kept c = toZ-ofZ w64 (c .args .h) (c .fits .h)
@@ -23,7 +24,7 @@ h-kept c = toZ-ofZ w64 (c .args .h) (c .fits .h)
 returns : tie.Need-returns
 returns c =
     let o = c .before .before in
-    denominated-beyond (o .args .curve) (o .args .h) (λ w. untold (c .before .in-range .result) (c .before .in-range .ensures) (c .if1 .taken) (subst (Within 20000) (sym (h-kept o)) w))
+    denominated-beyond (o .args .curve) (o .args .h) (λ w. untold (c .before .within .result) (c .before .within .ensures) (c .if1 .taken) (subst (Within coordinateReach) (sym (h-kept o)) w))
 
 preimage-of-requires : tie.Need-preimage-of-requires
 preimage-of-requires c κs = search needs
@@ -31,8 +32,8 @@ preimage-of-requires c κs = search needs
 enum-known-p : tie.Need-enum-known-p
 enum-known-p c = search needs
 
-h-within : (c : tie.Else1) → Within 20000 (c .before .before .args .h)
-h-within c = subst (Within 20000) (h-kept (c .before .before)) (told (c .before .in-range .result) (c .before .in-range .ensures) (c .if1 .left))
+h-within : (c : tie.Else1) → Within coordinateReach (c .before .before .args .h)
+h-within c = subst (Within coordinateReach) (h-kept (c .before .before)) (told (c .before .within .result) (c .before .within .ensures) (c .if1 .left))
 
 -- there is a pre-image
 module _ (c : tie.After-known-told) where
@@ -64,4 +65,4 @@ returns-3 c =
     denominated-refused (o .curve) (o .h) (h-within l) (c .before .r .given .0 .0) (subst (Preimaged (pointsOf (o .curve))) (c .before .r .given .1) (c .before .before .before .preimage-of .ensures))
 
 pub denominator-of-spec : {M : Type 1} → statement M
-denominator-of-spec = tie.close (tie.spec in-range-requires returns preimage-of-requires enum-known-p rooted-requires enum-known-r returns-2 returns-3)
+denominator-of-spec = tie.close (tie.spec within-requires returns preimage-of-requires enum-known-p rooted-requires enum-known-r returns-2 returns-3)

@@ -5,11 +5,12 @@ use Prim.Native.Nat.{ℕ}
 use lib.IntN.{ℤ, _*ℤ_}
 use mir.Syntax.{w64}
 use mir.Val.{SFits, toZ, ofZ}
-use Rattle.whole.specs.Poly.{at, scaled}
+use Rattle.whole.specs.Coefficients.{at}
+use Rattle.poly.specs.Polynomials.{scaled}
 use Rattle.whole.specs.Number.{wholes}
 use Rattle.whole.proofs.Wholes.{readℤ}
 use Rattle.whole.proofs.Bound.{done, _▸_, bounds, fits, kept}
-use Rattle.root.specs.Roots.{quartic}
+use Rattle.root.specs.Promise.{quartic}
 use Rattle.offset.proofs.denominators.multiple.Statement.{statement}
 use Rattle.offset.proofs.denominators.multiple.Tie as tie
 

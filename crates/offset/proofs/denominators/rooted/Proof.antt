@@ -10,9 +10,10 @@ use lib.IntN.{pos, natAbs, _*ℤ_}
 use mir.Syntax.{w64}
 use mir.Val.{SFits, toZ, ofZ}
 use mir.ValLaws.{toZ-ofZ}
-use Rattle.whole.specs.Poly.{at, scaled}
+use Rattle.whole.specs.Coefficients.{at}
+use Rattle.poly.specs.Polynomials.{scaled}
 use Rattle.whole.specs.Number.{wholes, Within}
-use Rattle.whole.specs.Roots.{IsRoot}
+use Rattle.whole.specs.Promise.{IsRoot}
 use Rattle.whole.proofs.Integers.{abs-times}
 use Rattle.whole.proofs.Wholes.{wholes-ring}
 use Rattle.whole.proofs.Bound.{fits-within}
@@ -21,7 +22,7 @@ use Rattle.whole.proofs.Order.{nonneg-is}
 use Rattle.whole.proofs.Machine.{cast-asks}
 use Rattle.poly.proofs.Lists.{at-scaled}
 use Rattle.pair.proofs.Laws.{root-le}
-use Rattle.root.specs.Roots.{quartic}
+use Rattle.root.specs.Promise.{quartic, rootSize}
 use Rattle.verdict.specs.declared.Square.{Square}
 use Rattle.offset.proofs.denominators.rooted.Statement.{statement}
 use Rattle.offset.proofs.denominators.rooted.Tie as tie
@@ -65,19 +66,19 @@ module _ (c : tie.After-known-told) where
   m-kept = toZ-ofZ w64 (pos m) (fits-within (lit< tt) m-small)
 
   -- (m q)² = c q²
-  product-small : (k : ℕ) → Within 20000000 (pos m *ℤ at wholes (quartic (s t .q)) k)
+  product-small : (k : ℕ) → Within rootSize (pos m *ℤ at wholes (quartic (s t .q)) k)
   product-small k =
       let x = natAbs (at wholes (quartic (s t .q)) k) in
       let e : m * x * (m * x) ≡ natAbs (s t .c) * (x * x) = omega (arith, ap (λ n. n * (x * x)) square) in
-      record { size = root-le (natAbs (pos m *ℤ at wholes (quartic (s t .q)) k)) 20000000 (rw (abs-times (pos m) (at wholes (quartic (s t .q)) k)) (omega (arith, t .before .before .pre .small k))) }
+      record { size = root-le (natAbs (pos m *ℤ at wholes (quartic (s t .q)) k)) rootSize (rw (abs-times (pos m) (at wholes (quartic (s t .q)) k)) (omega (arith, t .before .before .pre .small k))) }
 
   positive : 1 ≤ natAbs (s t .c)
   positive = let p = t .before .before .pre .positive in omega (linear, abs-parts (s t .c))
 
-  q-small : (k : ℕ) → Within 20000000 (at wholes (quartic (s t .q)) k)
+  q-small : (k : ℕ) → Within rootSize (at wholes (quartic (s t .q)) k)
   q-small k =
       let x = natAbs (at wholes (quartic (s t .q)) k) in
-      record { size = root-le x 20000000 (omega (arith, t .before .before .pre .small k, mul-le-mul positive (le-refl (x * x)))) }
+      record { size = root-le x rootSize (omega (arith, t .before .before .pre .small k, mul-le-mul positive (le-refl (x * x)))) }
 
 cast-multiple : tie.Need-cast-multiple
 cast-multiple c = fits-within (lit< tt) (m-small c)
@@ -98,7 +99,7 @@ returns c =
         m = m k;
         root = root;
         is = e;
-        small = λ i. subst (Within 20000000) (sym (ap (λ l. at wholes l i) e ∙ at-scaled wholes-ring (pos (m k)) (quartic (s (t k) .q)) i)) (product-small k i);
+        small = λ i. subst (Within rootSize) (sym (ap (λ l. at wholes l i) e ∙ at-scaled wholes-ring (pos (m k)) (quartic (s (t k) .q)) i)) (product-small k i);
       },
     )
 

@@ -4,11 +4,11 @@ use Prim.Native.Nat.{ℕ, zero, suc}
 use lib.IntN.{ℤ, _+ℤ_, +ℤ-idr}
 use mir.Syntax.{w64}
 use mir.Val.{SFits, toZ, ofZ}
-use Rattle.whole.specs.Poly.{at}
+use Rattle.whole.specs.Coefficients.{at}
 use Rattle.whole.specs.Number.{wholes, Within}
 use Rattle.whole.proofs.Wholes.{readℤ}
 use Rattle.whole.proofs.Bound.{done, _▸_, bounds, fits, kept, read-back}
-use Rattle.offset.specs.Steps.{ten}
+use Rattle.offset.specs.Steps.{nonic}
 use Rattle.offset.proofs.points.next.Statement.{statement}
 use Rattle.offset.proofs.points.next.Tie as tie
 
@@ -24,7 +24,7 @@ module _ (c : tie.After-struct-told10) where
   abbrev o : tie.Start
   o = c .before .before .before .before .before .before .before .before .before .before
 
-  size : (k : ℕ) → Within 4500000000000000000 (at wholes (ten (o .args .e)) k)
+  size : (k : ℕ) → Within 4500000000000000000 (at wholes (nonic (o .args .e)) k)
   size = o .pre
 
 add-t12 : tie.Need-add-t12

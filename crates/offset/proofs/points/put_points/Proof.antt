@@ -10,8 +10,8 @@ use mir.Val.{toZ, ofZ}
 use Rattle.whole.specs.Number.{wholes, Within}
 use Rattle.whole.proofs.Bound.{read-back}
 use Rattle.root.specs.Search.{Each}
-use Rattle.offset.specs.declared.Ten.{Ten}
-use Rattle.offset.specs.Steps.{ten}
+use Rattle.offset.specs.declared.Nonic.{Nonic}
+use Rattle.offset.specs.Steps.{nonic}
 use Rattle.offset.proofs.Turns.{Turn, numbers, doubled-fits, turn-start, turn-left, turn-long, turn-more, turn-end}
 use Rattle.offset.proofs.points.put_points.Statement.{statement}
 use Rattle.offset.proofs.points.put_points.Tie as tie
@@ -39,13 +39,13 @@ module _ (c : tie.After-struct-told3 Inv-loop μ-loop) where
   abbrev area : List ℤ
   area = c .before .before .before .before .loop .area
 
-  abbrev w : Ten
+  abbrev w : Nonic
   w = c .before .before .before .before .loop .w
 
-  abbrev x : Ten
+  abbrev x : Nonic
   x = c .before .before .before .before .loop .x
 
-  abbrev y : Ten
+  abbrev y : Nonic
   y = c .before .before .before .before .loop .y
 
   abbrev i : ℕ
@@ -60,13 +60,13 @@ module _ (c : tie.After-struct-told3 Inv-loop μ-loop) where
   room : i + 3 ≤ length area
   room = omega (arith, turn-left turn more, turn-long turn)
 
-  w-small : Each wholes (Within 4500000000000000000) (ten w)
+  w-small : Each wholes (Within 4500000000000000000) (nonic w)
   w-small = doubled-fits (turn .turns) w (turn-left turn more .0) (turn .w-small)
 
-  x-small : Each wholes (Within 4500000000000000000) (ten x)
+  x-small : Each wholes (Within 4500000000000000000) (nonic x)
   x-small = doubled-fits (turn .turns) x (turn-left turn more .0) (turn .x-small)
 
-  y-small : Each wholes (Within 4500000000000000000) (ten y)
+  y-small : Each wholes (Within 4500000000000000000) (nonic y)
   y-small = doubled-fits (turn .turns) y (turn-left turn more .0) (turn .y-small)
 
 mul-w0 : tie.Need-mul-w0 Inv-loop μ-loop

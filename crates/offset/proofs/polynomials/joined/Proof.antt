@@ -5,16 +5,17 @@ use native.Mathlib.Omega.{arith}
 use lib.IntN.{ℤ, _+ℤ_, _*ℤ_}
 use mir.Syntax.{w64}
 use mir.Val.{SFits, toZ, ofZ}
-use Rattle.whole.specs.Poly.{at}
+use Rattle.whole.specs.Coefficients.{at}
 use Rattle.whole.specs.Number.{wholes, Within}
 use Rattle.whole.proofs.Wholes.{readℤ}
 use Rattle.whole.proofs.Bound.{done, _▸_, bounds, fits, kept, read-back}
-use Rattle.offset.specs.Steps.{six, ten}
+use Rattle.root.specs.Promise.{rootSize}
+use Rattle.offset.specs.Steps.{coordinateOf, nonic}
 use Rattle.offset.proofs.polynomials.joined.Statement.{statement}
 use Rattle.offset.proofs.polynomials.joined.Tie as tie
 
 -- one coefficient
-module _ {a b z : ℤ} (h : Within 20000000 a) (k : Within 1600000 b) (l : Within 130000000000000 z) where
+module _ {a b z : ℤ} (h : Within rootSize a) (k : Within 1600000 b) (l : Within 130000000000000 z) where
   product-fits : SFits w64 (toZ w64 (ofZ w64 a) *ℤ toZ w64 (ofZ w64 b))
   product-fits = bounds (h ▸ k ▸ done) (λ ρ e k. simp (e 0, e 1, readℤ, kept k) (fits k _ refl))
 
@@ -28,13 +29,13 @@ module _ (c : tie.After-struct-told15) where
   abbrev o : tie.Start
   o = c .before .before .before .before .before .before .before .before .before .before .before .before .before .before .before
 
-  p : (k : ℕ) → Within 130000000000000 (at wholes (ten (o .args .p)) k)
+  p : (k : ℕ) → Within 130000000000000 (at wholes (nonic (o .args .p)) k)
   p = o .pre .0
 
-  f : Within 20000000 (o .args .f)
+  f : Within rootSize (o .args .f)
   f = o .pre .1
 
-  x : (k : ℕ) → Within 1600000 (at wholes (six (o .args .x)) k)
+  x : (k : ℕ) → Within 1600000 (at wholes (coordinateOf (o .args .x)) k)
   x = o .pre .2
 
   g : Within 130000000000000 (o .args .g)

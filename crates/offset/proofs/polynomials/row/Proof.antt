@@ -6,19 +6,21 @@ use native.Mathlib.Omega.{arith}
 use lib.IntN.{ℤ, _*ℤ_}
 use mir.Syntax.{w64}
 use mir.Val.{SFits, toZ, ofZ}
-use Rattle.whole.specs.Poly.{at}
+use Rattle.whole.specs.Coefficients.{at}
 use Rattle.whole.specs.Number.{wholes, Within}
 use Rattle.whole.proofs.Wholes.{readℤ}
 use Rattle.whole.proofs.Bound.{done, _▸_, bounds, fits, kept, within, read-back}
-use Rattle.offset.specs.declared.Six.{Six}
-use Rattle.offset.specs.declared.Ten.{Ten}
-use Rattle.offset.specs.Steps.{six, ten, joinedTo}
+use Rattle.root.specs.Promise.{rootSize}
+use Rattle.curve.specs.Sizes.{coordinateReach}
+use Rattle.offset.specs.declared.Coordinate.{Coordinate}
+use Rattle.offset.specs.declared.Nonic.{Nonic}
+use Rattle.offset.specs.Steps.{coordinateOf, nonic, joinedTo}
 use Rattle.offset.proofs.Products.{rowSize-most, none, Stage, stage-none, stage-step, stage-within, stage-row}
 use Rattle.offset.proofs.polynomials.row.Statement.{statement}
 use Rattle.offset.proofs.polynomials.row.Tie as tie
 
 -- h times a coefficient of d
-module _ {h b : ℤ} (hh : Within 20000 h) (hb : Within 1280000 b) where
+module _ {h b : ℤ} (hh : Within coordinateReach h) (hb : Within 1280000 b) where
   product-fits : SFits w64 (toZ w64 (ofZ w64 h) *ℤ toZ w64 (ofZ w64 b))
   product-fits = bounds (hh ▸ hb ▸ done) (λ ρ e k. simp (e 0, e 1, readℤ, kept k) (fits k _ refl))
 
@@ -29,16 +31,16 @@ module _ {h b : ℤ} (hh : Within 20000 h) (hb : Within 1280000 b) where
   product-within = bounds (hh ▸ hb ▸ done) (λ ρ e k. simp (e 0, e 1, readℤ) (within k _ refl))
 
 -- one call of `joined`, from a stage on: what it asks, and the stage that it makes
-module _ {x : Six} {h : ℤ} (hx : (k : ℕ) → Within 1600000 (at wholes (six x) k)) (hh : Within 20000 h) {n : ℕ} {p : Ten} {w d : List ℤ} (l : n ≤ 4) (s : Stage x h n p w d) {a b : ℤ} (ha : Within 20000000 a) (hb : Within 1280000 b) where
-  asks : ((k : ℕ) → Within 130000000000000 (at wholes (ten p) k)) × Within 20000000 (toZ w64 (ofZ w64 a)) × ((k : ℕ) → Within 1600000 (at wholes (six x) k)) × Within 25600000000 (toZ w64 (ofZ w64 (toZ w64 (ofZ w64 h) *ℤ toZ w64 (ofZ w64 b))))
+module _ {x : Coordinate} {h : ℤ} (hx : (k : ℕ) → Within 1600000 (at wholes (coordinateOf x) k)) (hh : Within coordinateReach h) {n : ℕ} {p : Nonic} {w d : List ℤ} (l : n ≤ 4) (s : Stage x h n p w d) {a b : ℤ} (ha : Within rootSize a) (hb : Within 1280000 b) where
+  asks : ((k : ℕ) → Within 130000000000000 (at wholes (nonic p) k)) × Within rootSize (toZ w64 (ofZ w64 a)) × ((k : ℕ) → Within 1600000 (at wholes (coordinateOf x) k)) × Within 25600000000 (toZ w64 (ofZ w64 (toZ w64 (ofZ w64 h) *ℤ toZ w64 (ofZ w64 b))))
   asks = (
     λ k. record { size = omega (arith, stage-within hx hh n p w d s k .size, rowSize-most n k) },
-    subst (Within 20000000) (sym (read-back tt ha)) ha,
+    subst (Within rootSize) (sym (read-back tt ha)) ha,
     hx,
     subst (Within 25600000000) (sym (product-is hh hb)) (product-within hh hb),
   )
 
-  made : {r : Ten} → r ≡ joinedTo p (toZ w64 (ofZ w64 a)) x (toZ w64 (ofZ w64 (toZ w64 (ofZ w64 h) *ℤ toZ w64 (ofZ w64 b)))) → Stage x h (suc n) r (a ∷ w) (b ∷ d)
+  made : {r : Nonic} → r ≡ joinedTo p (toZ w64 (ofZ w64 a)) x (toZ w64 (ofZ w64 (toZ w64 (ofZ w64 h) *ℤ toZ w64 (ofZ w64 b)))) → Stage x h (suc n) r (a ∷ w) (b ∷ d)
   made e = subst (λ r. Stage x h (suc n) r (a ∷ w) (b ∷ d)) (sym (e ∙ ap₂ (λ f g. joinedTo p f x g) (read-back tt ha) (product-is hh hb))) (stage-step hx hh n p w d a b l ha hb s)
 
 -- where the function starts, seen from the place before each call

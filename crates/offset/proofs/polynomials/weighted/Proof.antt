@@ -4,11 +4,11 @@ use Prim.Native.Nat.{ℕ, zero, suc}
 use lib.IntN.{ℤ, _*ℤ_}
 use mir.Syntax.{w64}
 use mir.Val.{SFits, toZ, ofZ}
-use Rattle.whole.specs.Poly.{at}
+use Rattle.whole.specs.Coefficients.{at}
 use Rattle.whole.specs.Number.{wholes, Within}
 use Rattle.whole.proofs.Wholes.{readℤ}
 use Rattle.whole.proofs.Bound.{done, _▸_, bounds, fits, kept}
-use Rattle.offset.specs.Steps.{ten}
+use Rattle.offset.specs.Steps.{nonic}
 use Rattle.offset.proofs.polynomials.weighted.Statement.{statement}
 use Rattle.offset.proofs.polynomials.weighted.Tie as tie
 
@@ -24,10 +24,10 @@ module _ (c : tie.After-struct-told20) where
   abbrev o : tie.Start
   o = c .before .before .before .before .before .before .before .before .before .before .before .before .before .before .before .before .before .before .before .before
 
-  a : (k : ℕ) → Within 170000000000000 (at wholes (ten (o .args .a)) k)
+  a : (k : ℕ) → Within 170000000000000 (at wholes (nonic (o .args .a)) k)
   a = o .pre .0
 
-  s : (k : ℕ) → Within 252 (at wholes (ten (o .args .s)) k)
+  s : (k : ℕ) → Within 252 (at wholes (nonic (o .args .s)) k)
   s = o .pre .1
 
 mul-t23 : tie.Need-mul-t23

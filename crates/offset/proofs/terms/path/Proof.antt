@@ -7,14 +7,14 @@ use lib.IntN.{ℤ, pos, _*ℤ_, *ℤ-comm, *ℤ-zero, zero-*ℤ}
 use mir.Syntax.{w64}
 use mir.Val.{SFits, toZ, ofZ}
 use mir.ValLaws.{toZ-ofZ}
-use Rattle.whole.specs.Poly.{at, Divides}
-use Rattle.whole.specs.Number.{wholes, Within}
-use Rattle.whole.specs.Quotients.{Shares}
+use Rattle.whole.specs.Coefficients.{at, Divides}
+use Rattle.whole.specs.Number.{wholes, Within, normSize}
+use Rattle.whole.specs.Promise.{Shares}
 use Rattle.whole.proofs.Integers.{*ℤ-1}
 use Rattle.whole.proofs.Linear.{linear}
 use Rattle.whole.proofs.Wholes.{readℤ}
 use Rattle.whole.proofs.Bound.{done, _▸_, bounds, fits, kept, within, read-back}
-use Rattle.root.specs.Roots.{quartic}
+use Rattle.root.specs.Promise.{quartic}
 use Rattle.offset.specs.Steps.{IsPath}
 use Rattle.offset.proofs.terms.path.Statement.{statement}
 use Rattle.offset.proofs.terms.path.Tie as tie
@@ -27,7 +27,7 @@ module _ {x y : ℤ} (h : Within 1280000 x) (k : Within 5 y) where
   product-is : toZ w64 (ofZ w64 (toZ w64 (ofZ w64 x) *ℤ toZ w64 (ofZ w64 y))) ≡ x *ℤ y
   product-is = bounds (h ▸ k ▸ done) (λ ρ e k. simp (e 0, e 1, readℤ, kept k))
 
-  product-within : Within 10000000000000 (x *ℤ y)
+  product-within : Within normSize (x *ℤ y)
   product-within = bounds (h ▸ k ▸ done) (λ ρ e k. simp (e 0, e 1, readℤ) (within k _ refl))
 
 module _ (c : tie.After-struct-told5) where
@@ -50,12 +50,12 @@ module _ (c : tie.After-struct-told5) where
   shares k l = record {
     whole = subst (Divides wholes (pos (suc k))) (sym (times-n-is k)) (o .pre .whole k);
     positive = omega linear;
-    n-small = subst (Within 10000000000000) (sym (times-n-is k)) (product-within (d k) n);
+    n-small = subst (Within normSize) (sym (times-n-is k)) (product-within (d k) n);
     d-small = record { size = omega arith };
   }
 
   -- what `share` answers
-  shared : (k : ℕ) {r : ℤ} → (pos (suc k) *ℤ r ≡ times-n k) × Within 10000000000000 r → pos (suc k) *ℤ toZ w64 (ofZ w64 r) ≡ at wholes (quartic (o .args .d)) k *ℤ o .args .n
+  shared : (k : ℕ) {r : ℤ} → (pos (suc k) *ℤ r ≡ times-n k) × Within normSize r → pos (suc k) *ℤ toZ w64 (ofZ w64 r) ≡ at wholes (quartic (o .args .d)) k *ℤ o .args .n
   shared k (e, h) = ap (λ z. pos (suc k) *ℤ z) (read-back tt h) ∙ e ∙ times-n-is k
 
 mul-x1 : tie.Need-mul-x1

@@ -8,22 +8,26 @@ use lib.IntN.{ℤ, pos, negℤ, _-ℤ_, +ℤ-idl}
 use lib.ListN.{length, List·getD-map}
 use mir.Syntax.{w64}
 use mir.Val.{toZ, ofZ}
-use Rattle.whole.specs.Poly.{at, Same}
+use Rattle.whole.specs.Coefficients.{at}
+use Rattle.poly.specs.Polynomials.{Same}
 use Rattle.whole.specs.Number.{wholes, Within}
 use Rattle.whole.proofs.Wholes.{readℤ}
 use Rattle.whole.proofs.Bound.{done, _▸_, bounds, fits, kept, within, read-back}
 use Rattle.pair.specs.declared.Pair.{Pair}
 use Rattle.pair.specs.Pairs.{pairs, PartsWithin}
 use Rattle.root.specs.declared.Quartic.{Quartic}
-use Rattle.root.specs.Roots.{quartic}
+use Rattle.root.specs.Promise.{quartic, rootSize}
+use Rattle.bernstein.specs.Powers.{powerForm}
+use Rattle.bernstein.proofs.PowerForms.{re-part, im-part}
 use Rattle.curve.specs.declared.Curve.{Curve}
-use Rattle.curve.specs.declared.Five.{Five}
-use Rattle.curve.specs.Curves.{pointsOf, powerForm, legPolynomial}
-use Rattle.curve.specs.Steps.{five}
-use Rattle.curve.proofs.LegPolynomial.{re-part, im-part, pointsOf-length, legs-within}
+use Rattle.curve.specs.declared.LegPowers.{LegPowers}
+use Rattle.curve.specs.Curves.{pointsOf, legPolynomial}
+use Rattle.curve.specs.Steps.{legPowers}
+use Rattle.curve.proofs.LegPolynomial.{pointsOf-length, legs-within}
 use Rattle.curve.proofs.Sizes.{legPolynomial-within}
 use Rattle.curve.proofs.Derivative.{start-within, powerForm-within}
-use Rattle.offset.specs.Steps.{six, ten, PathAsked, IsPath, RowAsked}
+use Rattle.curve.specs.Sizes.{legReach, coordinateReach}
+use Rattle.offset.specs.Steps.{coordinateOf, nonic, PathAsked, IsPath, RowAsked}
 use Rattle.offset.proofs.Products.{rowSize, rowSize-most, row-sized}
 use Rattle.offset.proofs.Paths.{path-asked, path-is, coordinate, weight-least, weight-size, weighted-of}
 use Rattle.offset.proofs.terms.rows.Statement.{statement}
@@ -41,7 +45,7 @@ legs-of-requires c κs = c .before .before .pre .range
 drawn-requires : tie.Need-drawn-requires
 drawn-requires c κs k =
     let s = c .before .before .before in
-    subst (λ (l : List Pair). PartsWithin 40000 (at pairs l k)) (sym (c .legs-of .ensures)) (legs-within (pointsOf (s .args .curve)) (s .pre .range) k)
+    subst (λ (l : List Pair). PartsWithin legReach (at pairs l k)) (sym (c .legs-of .ensures)) (legs-within (pointsOf (s .args .curve)) (s .pre .range) k)
 
 reals-requires : tie.Need-reals-requires
 reals-requires c κs = search needs
@@ -60,7 +64,7 @@ module _ (c : tie.After-imaginaries) where
   abbrev ps : List Pair
   ps = pointsOf (o .args .curve)
 
-  abbrev d : Five
+  abbrev d : LegPowers
   d = drew .drawn .result
 
   abbrev re : Quartic
@@ -72,15 +76,15 @@ module _ (c : tie.After-imaginaries) where
   short : length ps ≤ 6
   short = pointsOf-length (o .args .curve)
 
-  drawn-is : Same pairs (five d) (legPolynomial ps)
+  drawn-is : Same pairs (legPowers d) (legPolynomial ps)
   unfolding legPolynomial
   drawn-is k = drew .drawn .ensures k ∙ ap (λ (l : List Pair). at pairs (powerForm l) k) (drew .before .legs-of .ensures)
 
   re-is : (k : ℕ) → at wholes (quartic re) k ≡ at pairs (legPolynomial ps) k .re
-  re-is k = ap (λ (l : List ℤ). at wholes l k) (c .before .reals .ensures) ∙ List·getD-map (λ (z : Pair). z .re) (five d) k (pairs .none) ∙ ap (λ (z : Pair). z .re) (drawn-is k)
+  re-is k = ap (λ (l : List ℤ). at wholes l k) (c .before .reals .ensures) ∙ List·getD-map (λ (z : Pair). z .re) (legPowers d) k (pairs .none) ∙ ap (λ (z : Pair). z .re) (drawn-is k)
 
   im-is : (k : ℕ) → at wholes (quartic im) k ≡ at pairs (legPolynomial ps) k .im
-  im-is k = ap (λ (l : List ℤ). at wholes l k) (c .imaginaries .ensures) ∙ List·getD-map (λ (z : Pair). z .im) (five d) k (pairs .none) ∙ ap (λ (z : Pair). z .im) (drawn-is k)
+  im-is k = ap (λ (l : List ℤ). at wholes l k) (c .imaginaries .ensures) ∙ List·getD-map (λ (z : Pair). z .im) (legPowers d) k (pairs .none) ∙ ap (λ (z : Pair). z .im) (drawn-is k)
 
   re-small : (k : ℕ) → Within 1280000 (at wholes (quartic re) k)
   re-small k = rw (re-is k) (legPolynomial-within ps (o .pre .range) short k .re)
@@ -113,8 +117,8 @@ module _ (c : tie.After-path2) where
   abbrev g : tie.After-imaginaries
   g = c .before .before .before .before
 
-  start-small : PartsWithin 20000 (drew g .before .before .before .start .result)
-  start-small = subst (PartsWithin 20000) (sym (drew g .before .before .before .start .ensures)) (start-within (ps g) (o g .pre .range))
+  start-small : PartsWithin coordinateReach (drew g .before .before .before .start .result)
+  start-small = subst (PartsWithin coordinateReach) (sym (drew g .before .before .before .start .ensures)) (start-within (ps g) (o g .pre .range))
 
   start-re : toZ w64 (ofZ w64 (drew g .before .before .before .start .result .re)) ≡ at pairs (ps g) 0 .re
   start-re = read-back tt (start-small .re) ∙ ap (λ (z : Pair). z .re) (drew g .before .before .before .start .ensures)
@@ -123,10 +127,10 @@ module _ (c : tie.After-path2) where
   start-im = read-back tt (start-small .im) ∙ ap (λ (z : Pair). z .im) (drew g .before .before .before .start .ensures)
 
   abbrev x : List ℤ
-  x = six (c .before .before .path .result)
+  x = coordinateOf (c .before .before .path .result)
 
   abbrev y : List ℤ
-  y = six (c .path2 .result)
+  y = coordinateOf (c .path2 .result)
 
   x-is : (k : ℕ) → at wholes x k ≡ at pairs (powerForm (ps g)) k .re
   x-is = path-is re-part (ps g) (quartic (re g)) (re-is g) x (subst (λ X. X) (λ i. IsPath (start-re i) (quartic (re g)) (n-is g i) x) (c .before .before .path .ensures))
@@ -143,7 +147,7 @@ module _ (c : tie.After-path2) where
   less-is : toZ w64 (ofZ w64 (pos 0 -ℤ toZ w64 (ofZ w64 h))) ≡ negℤ h
   less-is = bounds (o g .pre .h-small ▸ done) (λ ρ e k. simp (e 0, +ℤ-idl, readℤ, kept k))
 
-  less-small : Within 20000 (negℤ h)
+  less-small : Within coordinateReach (negℤ h)
   less-small = bounds (o g .pre .h-small ▸ done) (λ ρ e k. simp (e 0, readℤ) (within k _ refl))
 
   x-asked : RowAsked (quartic (o g .args .w)) x (toZ w64 (ofZ w64 h)) (quartic (im g))
@@ -154,7 +158,7 @@ module _ (c : tie.After-path2) where
     d-small = im-small g;
   }
 
-  y-asked : {z : ℤ} → Within 20000 z → RowAsked (quartic (o g .args .w)) y z (quartic (re g))
+  y-asked : {z : ℤ} → Within coordinateReach z → RowAsked (quartic (o g .args .w)) y z (quartic (re g))
   y-asked hz = record {
     w-small = o g .pre .w-small;
     x-small = λ k. rw (y-is k) (powerForm-within (ps g) (o g .pre .range) (short g) k .im);
@@ -185,16 +189,16 @@ module _ (c : tie.After-weights) where
   abbrev curve : Curve
   curve = o (g p) .args .curve
 
-  x-sized : (k : ℕ) → Within (rowSize 5 k) (at wholes (ten (c .before .before .before .row .result)) k)
-  x-sized = row-sized (ten (c .before .before .before .row .result)) (x-asked p) (omega arith) (omega arith) (c .before .before .before .row .ensures)
+  x-sized : (k : ℕ) → Within (rowSize 5 k) (at wholes (nonic (c .before .before .before .row .result)) k)
+  x-sized = row-sized (nonic (c .before .before .before .row .result)) (x-asked p) (omega arith) (omega arith) (c .before .before .before .row .ensures)
 
-  y-sized : (k : ℕ) → Within (rowSize 5 k) (at wholes (ten (c .before .before .row2 .result)) k)
-  y-sized = row-sized (ten (c .before .before .row2 .result)) (y-asked p (subst (Within 20000) (sym (less-is p)) (less-small p))) (omega arith) (omega arith) (c .before .before .row2 .ensures)
+  y-sized : (k : ℕ) → Within (rowSize 5 k) (at wholes (nonic (c .before .before .row2 .result)) k)
+  y-sized = row-sized (nonic (c .before .before .row2 .result)) (y-asked p (subst (Within coordinateReach) (sym (less-is p)) (less-small p))) (omega arith) (omega arith) (c .before .before .row2 .ensures)
 
-  w-sized : (k : ℕ) → Within 20000000 (at wholes (ten (c .before .extended .result)) k)
+  w-sized : (k : ℕ) → Within rootSize (at wholes (nonic (c .before .extended .result)) k)
   w-sized k = rw (c .before .extended .ensures k) (o (g p) .pre .w-small k)
 
-  s-sized : (k : ℕ) → Within 252 (at wholes (ten (c .weights .result)) k)
+  s-sized : (k : ℕ) → Within 252 (at wholes (nonic (c .weights .result)) k)
   s-sized k = rw (c .weights .ensures k) (record { size = weight-least curve k })
 
 weighted-requires : tie.Need-weighted-requires
@@ -211,13 +215,13 @@ returns c =
     let s = c .before .before .before in
     let t = p s in
     record {
-      w = weighted-of (curve s) (ten (s .before .extended .result)) (ten (s .weights .result)) _ (λ k. 20000000) (s .weights .ensures) (c .before .before .weighted .ensures) (s .before .extended .ensures) (w-sized s)
+      w = weighted-of (curve s) (nonic (s .before .extended .result)) (nonic (s .weights .result)) _ (λ k. rootSize) (s .weights .ensures) (c .before .before .weighted .ensures) (s .before .extended .ensures) (w-sized s)
           (λ k. omega (arith, weight-least (curve s) k));
-      x = weighted-of (curve s) (ten (s .before .before .before .row .result)) (ten (s .weights .result)) _ (rowSize 5) (s .weights .ensures) (c .before .weighted2 .ensures)
-          (coordinate re-part im-part (ps (g t)) (quartic (o (g t) .args .w)) (x t) (quartic (im (g t))) (ten (s .before .before .before .row .result)) (h t) (x-is t) (im-is (g t)) (rw (h-kept t) at (s .before .before .before .row .ensures)))
+      x = weighted-of (curve s) (nonic (s .before .before .before .row .result)) (nonic (s .weights .result)) _ (rowSize 5) (s .weights .ensures) (c .before .weighted2 .ensures)
+          (coordinate re-part im-part (ps (g t)) (quartic (o (g t) .args .w)) (x t) (quartic (im (g t))) (nonic (s .before .before .before .row .result)) (h t) (x-is t) (im-is (g t)) (rw (h-kept t) at (s .before .before .before .row .ensures)))
           (x-sized s) (weight-size (curve s));
-      y = weighted-of (curve s) (ten (s .before .before .row2 .result)) (ten (s .weights .result)) _ (rowSize 5) (s .weights .ensures) (c .weighted3 .ensures)
-          (coordinate im-part re-part (ps (g t)) (quartic (o (g t) .args .w)) (y t) (quartic (re (g t))) (ten (s .before .before .row2 .result)) (negℤ (h t)) (y-is t) (re-is (g t)) (rw (less-is t) at (s .before .before .row2 .ensures)))
+      y = weighted-of (curve s) (nonic (s .before .before .row2 .result)) (nonic (s .weights .result)) _ (rowSize 5) (s .weights .ensures) (c .weighted3 .ensures)
+          (coordinate im-part re-part (ps (g t)) (quartic (o (g t) .args .w)) (y t) (quartic (re (g t))) (nonic (s .before .before .row2 .result)) (negℤ (h t)) (y-is t) (re-is (g t)) (rw (less-is t) at (s .before .before .row2 .ensures)))
           (y-sized s) (weight-size (curve s));
     }
 

@@ -9,7 +9,7 @@ use Rattle.record.specs.declared.kinds.Kind.{Kind}
 use Rattle.record.specs.declared.kinds.Named.the-variants as named-as
 use Rattle.record.specs.declared.kinds.Row.{Row}
 use Rattle.record.specs.Kinds.{rowOf, kinds}
-use Rattle.record.specs.Steps.{kindIn}
+use Rattle.record.specs.Records.{kindIn}
 use Rattle.record.proofs.points.held_curve.Statement.{statement}
 use Rattle.record.proofs.points.held_curve.Tie as tie
 

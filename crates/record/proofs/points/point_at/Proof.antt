@@ -1,7 +1,7 @@
 -- `walks::point_at` meets its contract.
 use borrow.Author.Needs.{needs}
 use mathlib.Core.Path.{ap, _∙_}
-use Rattle.record.specs.Numbers.{signed as signedOf}
+use Rattle.record.specs.Numbers.{signedOf}
 use Rattle.record.proofs.Signs.{settled}
 use Rattle.record.proofs.points.point_at.Statement.{statement}
 use Rattle.record.proofs.points.point_at.Tie as tie

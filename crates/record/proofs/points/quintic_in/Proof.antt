@@ -31,12 +31,14 @@ point-at-requires-6 c κs = search needs
 returns : tie.Need-returns
 unfolding pointsIn coordinates
 returns c =
-    let s = c .before .before .before .before .before .before .before in
+    let four = c .before .before in
+    let two = four .before .before in
+    let s = two .before .before .before in
     let words : (length (s .args .bytes .now) - 4) / 4 ≡ 12 = omega (arith, s .pre) in
-    let p0 = c .before .before .before .before .before .point-at .ensures in
-    let p1 = c .before .before .before .before .point-at2 .ensures in
-    let p2 = c .before .before .before .point-at3 .ensures in
-    let p3 = c .before .before .point-at4 .ensures in
+    let p0 = two .before .point-at .ensures in
+    let p1 = two .point-at2 .ensures in
+    let p2 = four .before .point-at3 .ensures in
+    let p3 = four .point-at4 .ensures in
     let p4 = c .before .point-at5 .ensures in
     let p5 = c .point-at6 .ensures in
     rw words (λ i. p0 i ∷ p1 i ∷ p2 i ∷ p3 i ∷ p4 i ∷ p5 i ∷ [])

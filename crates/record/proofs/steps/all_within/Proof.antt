@@ -6,8 +6,8 @@ use native.Mathlib.Omega.{arith}
 use lib.Dec.{leb}
 use lib.IntN.{natAbs}
 use lib.ListN.{length}
-use Rattle.record.specs.Numbers.{signed, coordinates}
-use Rattle.record.specs.Steps.{allWithin}
+use Rattle.record.specs.Numbers.{signedOf, coordinates}
+use Rattle.record.specs.Records.{allWithin}
 use Rattle.record.proofs.Signs.{word-within, word-outside}
 use Rattle.record.proofs.Loops.{within-none, within-fail, within-pass}
 use Rattle.record.proofs.steps.all_within.Statement.{statement}
@@ -32,7 +32,7 @@ returns : tie.Need-returns Inv-loop μ-loop
 returns c =
     let w = c .before .word-at .ensures in
     within-fail _ _ _ (c .before .before .loop-test .taken)
-    (ap (λ (n : ℕ). leb (natAbs (signed n)) 20000) (sym (w .0)) ∙ word-outside _ (w .1) (c .if1 .taken))
+    (ap (λ (n : ℕ). leb (natAbs (signedOf n)) 20000) (sym (w .0)) ∙ word-outside _ (w .1) (c .if1 .taken))
     ∙ c .before .before .before .loop .inv .0
 
 add-at : tie.Need-add-at Inv-loop μ-loop
@@ -48,7 +48,7 @@ loop-again : tie.Need-loop-again Inv-loop μ-loop
 loop-again c =
     let w = c .before .word-at .ensures in (
       within-pass _ _ _ (c .before .before .loop-test .taken)
-          (ap (λ (n : ℕ). leb (natAbs (signed n)) 20000) (sym (w .0)) ∙ word-within _ (w .1) (c .if1 .left))
+          (ap (λ (n : ℕ). leb (natAbs (signedOf n)) 20000) (sym (w .0)) ∙ word-within _ (w .1) (c .if1 .left))
           ∙ c .before .before .before .loop .inv .0,
       omega arith,
     )

@@ -4,7 +4,7 @@ use mathlib.Core.Path.{_≡_, _∙_}
 use Prim.Native.Nat.{_+_, _-_, _≤_}
 use native.Mathlib.Omega.{arith}
 use lib.ListN.{length, drop}
-use Rattle.record.specs.Steps.{erasedBytes}
+use Rattle.record.specs.Records.{erasedBytes}
 use Rattle.record.proofs.Loops.{erased-all, erased-stop, erased-more}
 use Rattle.record.proofs.steps.erased_bytes.Statement.{statement}
 use Rattle.record.proofs.steps.erased_bytes.Tie as tie

@@ -2,7 +2,7 @@
 use borrow.Author.Needs.{needs}
 use borrow.Author.Tests.{lt-ltb, le-ltb}
 use Rattle.refusal.specs.Answers.{if_then_else_}
-use Rattle.record.specs.Steps.{erasedStep}
+use Rattle.record.specs.Records.{erasedStep}
 use Rattle.record.proofs.steps.erased_step.Statement.{statement}
 use Rattle.record.proofs.steps.erased_step.Tie as tie
 

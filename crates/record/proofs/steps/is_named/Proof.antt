@@ -2,7 +2,7 @@
 use mathlib.Core.Path.{sym, ap}
 use borrow.Author.Tests.{eq-eqb, ne-eqb}
 use Rattle.record.specs.declared.kinds.Row.{Row}
-use Rattle.record.specs.Steps.{named}
+use Rattle.record.specs.Records.{named}
 use borrow.Author.Needs.{needs}
 use Rattle.record.proofs.steps.is_named.Statement.{statement}
 use Rattle.record.proofs.steps.is_named.Tie as tie

@@ -1,7 +1,7 @@
 -- `steps::kind_in` meets its contract: the table, kind by kind.
 use mathlib.Core.Path.{sym, _∙_}
 use Rattle.refusal.specs.Answers.{if_then_else_}
-use Rattle.record.specs.Steps.{kindIn}
+use Rattle.record.specs.Records.{kindIn}
 use borrow.Author.Needs.{needs}
 use Rattle.record.proofs.steps.kind_in.Statement.{statement}
 use Rattle.record.proofs.steps.kind_in.Tie as tie

@@ -1,6 +1,6 @@
 -- `steps::kind_step` meets its contract.
 use mathlib.Core.Path.{sym, ap, _∙_}
-use Rattle.record.specs.Steps.{kindStep}
+use Rattle.record.specs.Records.{kindStep}
 use borrow.Author.Needs.{needs}
 use Rattle.record.proofs.steps.kind_step.Statement.{statement}
 use Rattle.record.proofs.steps.kind_step.Tie as tie
@@ -19,8 +19,9 @@ enum-told c = search needs
 
 returns : tie.Need-returns
 returns c =
-    c .sized-step .ensures
-    ∙ sym (ap (kindStep (c .before .before .before .before .before .before .args .rest .now)) (sym (c .before .before .before .before .kind-in .ensures) ∙ c .before .before .kind .given .1))
+    let known = c .before .before in
+    let named = known .before .before in
+    c .sized-step .ensures ∙ sym (ap (kindStep (named .before .before .args .rest .now)) (sym (named .kind-in .ensures) ∙ known .kind .given .1))
 
 returns-2 : tie.Need-returns-2
 returns-2 c = sym (ap (kindStep (c .before .before .before .before .args .rest .now)) (sym (c .before .before .kind-in .ensures) ∙ c .enum-told .given .1))

@@ -8,7 +8,7 @@ use Rattle.refusal.specs.Answers.{if_then_else_}
 use Rattle.record.specs.declared.kinds.Row.{Row}
 use Rattle.record.specs.Numbers.{sizeOf, coordinates}
 use Rattle.record.specs.Kinds.{rowOf, words as wordsOf}
-use Rattle.record.specs.Steps.{allWithin, sizedStep}
+use Rattle.record.specs.Records.{allWithin, sizedStep}
 use Rattle.record.proofs.Table.{row-known}
 use Rattle.record.proofs.steps.record_step.Statement.{statement}
 use Rattle.record.proofs.steps.record_step.Tie as tie
@@ -65,4 +65,4 @@ returns-4 c =
     rw (eq-eqb _ _ (sized e), le-ltb _ _ (rw (size-is (e .before)) at (c .before .before .before .if2 .left)), sym (range-is (c .before)) ∙ c .if3 .left)
 
 pub record-step-spec : {M : Type 1} → statement M
-record-step-spec = tie.close (tie.spec row-of-requires half-at-requires returns returns-2 words-requires all-within-requires returns-3 returns-4)
+record-step-spec = tie.close (tie.spec row-of-requires half-at-requires words-requires all-within-requires returns returns-2 returns-3 returns-4)

@@ -2,7 +2,7 @@
 use borrow.Author.Needs.{needs}
 use mathlib.Core.Path.{sym, ap, _∙_}
 use Rattle.record.specs.declared.kinds.Kind.{Kind}
-use Rattle.record.specs.Steps.{sizedStep}
+use Rattle.record.specs.Records.{sizedStep}
 use Rattle.record.proofs.steps.sized_step.Statement.{statement}
 use Rattle.record.proofs.steps.sized_step.Tie as tie
 

@@ -3,7 +3,7 @@ use borrow.Author.Needs.{needs}
 use borrow.Author.Tests.{eq-eqb, ne-eqb, lt-ltb, le-ltb}
 use mathlib.Core.Path.{sym, _∙_}
 use Rattle.refusal.specs.Answers.{if_then_else_}
-use Rattle.record.specs.Steps.{stepOf}
+use Rattle.record.specs.Records.{stepOf}
 use Rattle.record.proofs.steps.step_of.Statement.{statement}
 use Rattle.record.proofs.steps.step_of.Tie as tie
 

@@ -8,7 +8,7 @@ use lib.IntN.{ℤ, pos, natAbs}
 use lib.ListN.{length, drop, getD}
 use mir.Syntax.{w64}
 use mir.ValLaws.{toZ-ofZ}
-use Rattle.record.specs.Steps.{allWithin}
+use Rattle.record.specs.Records.{allWithin}
 use Rattle.record.proofs.Loops.{numbers-none, numbers-fail, numbers-pass}
 use Rattle.record.proofs.writes.numbers_within.Statement.{statement}
 use Rattle.record.proofs.writes.numbers_within.Tie as tie

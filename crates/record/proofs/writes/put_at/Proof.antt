@@ -11,7 +11,8 @@ use lib.Seq.{length-take-le}
 use Rattle.record.specs.declared.kinds.Row.{Row}
 use Rattle.record.specs.Numbers.{written}
 use Rattle.record.specs.Kinds.{rowOf}
-use Rattle.record.specs.Steps.{allWithin}
+use Rattle.record.specs.Records.{allWithin}
+use Rattle.record.proofs.Table.{row-known}
 use Rattle.record.proofs.Putting.{put-back, at-range, at-room, at-done}
 use Rattle.record.proofs.writes.put_at.Statement.{statement}
 use Rattle.record.proofs.writes.put_at.Tie as tie
@@ -19,16 +20,19 @@ use Rattle.record.proofs.writes.put_at.Tie as tie
 numbers-within-requires : tie.Need-numbers-within-requires
 numbers-within-requires c κs = search needs
 
-returns : tie.Need-returns
-returns c = at-range _ _ _ _ (sym (c .before .numbers-within .ensures) ∙ not-true _ (c .if1 .taken))
-
 row-of-requires : tie.Need-row-of-requires
 row-of-requires c κs = search needs
 
--- past the test of RANGE: the numbers are in range, and the table says how long the record is
-module _ (c : tie.After-row-of) where
+left-at-requires : tie.Need-left-at-requires
+left-at-requires c κs = search needs
+
+-- before the tests: what the table and the place say
+module _ (c : tie.After-left-at) where
+  abbrev sized : tie.After-row-of
+  sized = c .before .before
+
   abbrev start : tie.Start
-  start = c .before .before .before .before
+  start = sized .before .before .before
 
   abbrev bytes : List ℕ
   bytes = start .args .bytes .now
@@ -37,36 +41,46 @@ module _ (c : tie.After-row-of) where
   at = start .args .at
 
   abbrev size : ℕ
-  size = c .row-of .result .size
+  size = sized .row-of .result .size
 
-  range : allWithin (start .args .xs .now) ≡ true
-  range = sym (c .before .before .numbers-within .ensures) ∙ not-false _ (c .before .if1 .left)
+  within-is : sized .before .numbers-within .result ≡ allWithin (start .args .xs .now)
+  within-is = sized .before .numbers-within .ensures
 
   size-is : size ≡ rowOf (start .args .kind) .size
-  size-is = ap (λ (r : Row). r .size) (c .row-of .ensures)
+  size-is = ap (λ (r : Row). r .size) (sized .row-of .ensures)
 
--- past the test of ROOM: the record fits
-module _ (c : tie.Else3) where
-  abbrev sized : tie.After-row-of
-  sized = c .before .before
+  left-is : c .left-at .result ≡ length bytes - at
+  left-is = c .left-at .ensures
 
-  room : at sized + size sized ≤ length (bytes sized)
-  room = omega (arith, c .if3 .left, c .before .if2 .left)
+same-length : tie.Need-same-length
+same-length c = search needs
 
-  part-long : length (take (at sized + size sized - at sized) (drop (at sized) (bytes sized))) ≡ size sized
-  part-long = length-take-le (at sized + size sized - at sized) (drop (at sized) (bytes sized)) (omega (arith, length-drop (at sized) (bytes sized), room)) ∙ omega arith
+returns : tie.Need-returns
+returns c = at-range _ _ _ _ (sym (within-is (c .before)) ∙ not-true _ (c .if1 .taken))
+
+-- past the test of RANGE
+range : (c : tie.Else1) → allWithin (start (c .before) .args .xs .now) ≡ true
+range c = sym (within-is (c .before)) ∙ not-false _ (c .if1 .left)
+
+same-length-2 : tie.Need-same-length-2
+same-length-2 c = search needs
 
 returns-2 : tie.Need-returns-2
-returns-2 c = let r = c .before in at-room _ _ _ _ (range r) (omega (arith, size-is r, c .if2 .taken))
+returns-2 c = let k = c .before .before in at-room _ _ _ _ (range (c .before)) (omega (arith, size-is k, left-is k, c .if2 .taken))
 
-sub-if3 : tie.Need-sub-if3
-sub-if3 c = search needs
+-- past the test of ROOM: the record fits
+module _ (c : tie.Else2) where
+  abbrev known : tie.After-left-at
+  known = c .before .before
 
-returns-3 : tie.Need-returns-3
-returns-3 c = let r = c .before .before in at-room _ _ _ _ (range r) (omega (arith, size-is r, c .if3 .taken, c .before .if2 .left))
+  room : at known + size known ≤ length (bytes known)
+  room = omega (arith, c .if2 .left, left-is known, size-is known, row-known (start known .args .kind) .long)
+
+  part-long : length (take (at known + size known - at known) (drop (at known) (bytes known))) ≡ size known
+  part-long = length-take-le (at known + size known - at known) (drop (at known) (bytes known)) (omega (arith, length-drop (at known) (bytes known), room)) ∙ omega arith
 
 add-put-record : tie.Need-add-put-record
-add-put-record c = search needs
+add-put-record c = omega (arith, room c, start (known c) .fits)
 
 sub-put-record : tie.Need-sub-put-record
 sub-put-record c = search needs
@@ -78,33 +92,34 @@ part-put-record-end : tie.Need-part-put-record-end
 part-put-record-end c = room c
 
 put-record-requires : tie.Need-put-record-requires
-put-record-requires c κs = let r = sized (c .before) in (part-long (c .before) ∙ size-is r, start r .pre, range r)
+put-record-requires c κs = let k = known (c .before) in (part-long (c .before) ∙ size-is k, start k .pre, range (c .before .before))
 
-same-length : tie.Need-same-length
-same-length c = search needs
+same-length-3 : tie.Need-same-length-3
+same-length-3 c = search needs
 
-returns-4 : tie.Need-returns-4
-returns-4 c =
+returns-3 : tie.Need-returns-3
+returns-3 c =
     let p = c .before .before in
     let tested = p .before .before in
-    let r = sized tested in
-    at-done _ _ _ _ (range r) (omega (arith, size-is r, room tested))
-    (put-back (bytes r) (at r) (size r) (p .put-record .last .0) (p .put-record .kept .0 ∙ part-long tested) ∙ ap (written (bytes r) (at r)) (p .put-record .ensures))
+    let k = known tested in
+    at-done _ _ _ _ (range (tested .before)) (omega (arith, size-is k, room tested))
+    (put-back (bytes k) (at k) (size k) (p .put-record .last .0) (p .put-record .kept .0 ∙ part-long tested) ∙ ap (written (bytes k) (at k)) (p .put-record .ensures))
 
 pub put-at-spec : {M : Type 1} → statement M
 put-at-spec =
     tie.close
     (tie.spec
     numbers-within-requires
-    returns
     row-of-requires
+    left-at-requires
+    same-length
+    returns
+    same-length-2
     returns-2
-    sub-if3
-    returns-3
     add-put-record
     sub-put-record
     part-put-record-start
     part-put-record-end
     put-record-requires
-    same-length
-    returns-4)
+    same-length-3
+    returns-3)

@@ -46,24 +46,28 @@ bits-requires : tie.Need-bits-requires Inv-loop μ-loop
 bits-requires c κs = subst (Within 20000) (sym (x-kept c)) (x-within c)
 
 put-word-requires : tie.Need-put-word-requires Inv-loop μ-loop
-put-word-requires c κs = omega (arith, c .before .before .before .before .before .before .pre .0)
+put-word-requires c κs = let turn = c .before .before .before .before in omega (arith, turn .before .before .pre .0)
 
 add-i : tie.Need-add-i Inv-loop μ-loop
 add-i c = search needs
 
 add-at : tie.Need-add-at Inv-loop μ-loop
-add-at c = omega (arith, c .before .before .before .before .before .before .before .before .before .pre .0, c .before .before .before .before .before .before .before .loop .inv)
+add-at c =
+    let read = c .before .before .before .before in
+    let turn = read .before .before .before in
+    omega (arith, turn .before .before .pre .0, turn .loop .inv)
 
 loop-less : tie.Need-loop-less Inv-loop μ-loop
 loop-less c = search needs
 
 loop-again : tie.Need-loop-again Inv-loop μ-loop
 loop-again c =
-    let s = c .before .before .before .before .before .before .before .before .before in
-    let v = c .before .before .before .before .before .before .before .loop .inv in
-    let k = c .before .before .before .before in (
-      words-more (s .args .bytes .now) (s .args .xs .now) (s .pre .0) (k .before .before .before .loop .i) (k .before .before .before .loop .at) (k .before .before .loop-test .taken) (v .3) (v .0)
-          (c .before .before .put-word .ensures ∙ ap (λ (w : ℕ). written (k .before .before .before .loop .bytes) (k .before .before .before .loop .at) (wordBytes w)) (c .before .before .before .bits .ensures ∙ ap bitsOf (x-kept k))),
+    let k = c .before .before .before .before in
+    let turn = k .before .before .before in
+    let s = turn .before .before in
+    let v = turn .loop .inv in (
+      words-more (s .args .bytes .now) (s .args .xs .now) (s .pre .0) (turn .loop .i) (turn .loop .at) (k .before .before .loop-test .taken) (v .3) (v .0)
+          (c .before .before .put-word .ensures ∙ ap (λ (w : ℕ). written (turn .loop .bytes) (turn .loop .at) (wordBytes w)) (c .before .before .before .bits .ensures ∙ ap bitsOf (x-kept k))),
       c .before .before .put-word .kept .0 ∙ v .1,
       omega arith,
       omega arith,

@@ -36,7 +36,8 @@ returns : tie.Need-returns
 returns c =
     let blank = c .before .before in
     let name = blank .before .before .before .before .before in
-    let front = name .before .before .before .before .before .before .before in
+    let row-there = name .before .before .before .before in
+    let front = row-there .before .before .before in
     let row = front .before .before .before in
     let is = ap (λ (r : Row). r .name) (row .row-of .ensures ∙ ap rowOf (row .before .kind-of .ensures)) in
     front .put .ensures then writes-same is (name .put2 .ensures) then blank .put3 .ensures

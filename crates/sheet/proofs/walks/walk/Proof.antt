@@ -1,6 +1,6 @@
 -- `walks::walk` meets its contract. Invariant: where the walk stands (`Passed`).
 use borrow.Author.Needs.{needs}
-use mathlib.Core.Path.{_≡_, sym, ap, _∙_}
+use mathlib.Core.Path.{_≡_, sym, ap, _∙_, subst}
 use mathlib.Core.List.{List}
 use Prim.Native.Nat.{ℕ, _+_, _-_, _≤_, _<_}
 use native.Mathlib.Omega.{arith}
@@ -9,8 +9,9 @@ use Rattle.record.specs.declared.kinds.Kind.{Kind}
 use Rattle.record.specs.declared.kinds.Row.{Row}
 use Rattle.record.specs.declared.steps.Step.the-variants as step
 use Rattle.record.specs.Kinds.{rowOf}
-use Rattle.record.specs.Steps.{stepOf}
+use Rattle.record.specs.Records.{longest, stepOf}
 use Rattle.record.proofs.Shown.{fault-near}
+use Rattle.sheet.specs.Steps.{Walks}
 use Rattle.sheet.proofs.Passed.{Passed, passed-none, walked-long, rest-is, sound-here, fault-here, farther, passed-here, passed-past, passed-other}
 use Rattle.sheet.proofs.walks.walk.Statement.{statement}
 use Rattle.sheet.proofs.walks.walk.Tie as tie
@@ -24,8 +25,11 @@ abbrev μ-loop : tie.MeasureT-loop
 nowhere-requires : tie.Need-nowhere-requires Inv-loop μ-loop
 nowhere-requires c κs = search needs
 
+faulty-requires : tie.Need-faulty-requires Inv-loop μ-loop
+faulty-requires c κs = search needs
+
 returns : tie.Need-returns Inv-loop μ-loop
-returns c = walked-long _ _ (c .before .if1 .taken) (c .nowhere .ensures)
+returns c = subst (Walks _ _) (sym (c .faulty .ensures)) (walked-long _ _ (c .before .before .if1 .taken) (c .before .nowhere .ensures))
 
 loop-holds : tie.Need-loop-holds Inv-loop μ-loop
 loop-holds c = passed-none _ _
@@ -50,7 +54,7 @@ module _ (c : tie.After-step-of Inv-loop μ-loop) where
   abbrev sheet : List ℕ
   sheet = head .before .before .before .args .sheet .now
 
-  short : length sheet ≤ 4096
+  short : length sheet ≤ longest
   short = head .before .if1 .left
 
   step-is : c .step-of .result ≡ stepOf (drop (head .loop .at) sheet)
@@ -59,14 +63,20 @@ module _ (c : tie.After-step-of Inv-loop μ-loop) where
 enum-told : tie.Need-enum-told Inv-loop μ-loop
 enum-told c = search needs
 
+sound-requires : tie.Need-sound-requires Inv-loop μ-loop
+sound-requires c κs = search needs
+
 returns-2 : tie.Need-returns-2 Inv-loop μ-loop
-returns-2 c = let k = c .before .before in sound-here (head k .loop .inv) (short k) (sym (step-is k) ∙ c .enum-told .given .1)
+returns-2 c =
+    let told = c .before in
+    let k = told .before .before in
+    subst (Walks _ _) (sym (c .sound .ensures)) (sound-here (head k .loop .inv) (short k) (sym (step-is k) ∙ told .enum-told .given .1))
 
 enum-known-refusal : tie.Need-enum-known-refusal Inv-loop μ-loop
 enum-known-refusal c = search needs
 
 -- a fault lies within the sheet
-within : (c : tie.After-known-told Inv-loop μ-loop) → let k = c .before .before .before in head k .loop .at + c .before .refusal .given .0 .1 .0 ≤ 4096
+within : (c : tie.After-known-told Inv-loop μ-loop) → let k = c .before .before .before in head k .loop .at + c .before .refusal .given .0 .1 .0 ≤ longest
 within c =
     let k = c .before .before .before in
     let near = fault-near _ _ _ (sym (step-is k) ∙ c .before .refusal .given .1) in
@@ -78,8 +88,14 @@ add-place c = omega (arith, within c)
 cast-place : tie.Need-cast-place Inv-loop μ-loop
 cast-place c = omega (arith, within c)
 
+faulty-requires-2 : tie.Need-faulty-requires-2 Inv-loop μ-loop
+faulty-requires-2 c κs = search needs
+
 returns-3 : tie.Need-returns-3 Inv-loop μ-loop
-returns-3 c = let k = c .before .before .before in fault-here (head k .loop .inv) (short k) (sym (step-is k) ∙ c .before .refusal .given .1)
+returns-3 c =
+    let known = c .before in
+    let k = known .before .before .before in
+    subst (Walks _ _) (sym (c .faulty2 .ensures)) (fault-here (head k .loop .inv) (short k) (sym (step-is k) ∙ known .before .refusal .given .1))
 
 enum-known-kind : tie.Need-enum-known-kind Inv-loop μ-loop
 enum-known-kind c = search needs
@@ -147,6 +163,7 @@ walk-spec =
     Inv-loop
     μ-loop
     nowhere-requires
+    faulty-requires
     returns
     loop-holds
     sub-step-of
@@ -154,10 +171,12 @@ walk-spec =
     part-step-of-end
     step-of-requires
     enum-told
+    sound-requires
     returns-2
     enum-known-refusal
     add-place
     cast-place
+    faulty-requires-2
     returns-3
     enum-known-kind
     row-of-requires

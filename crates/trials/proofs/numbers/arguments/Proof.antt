@@ -13,17 +13,17 @@ Inv-loop text from out₀ count₀ at₀ out count at = (length out ≡ length o
 abbrev μ-loop : tie.MeasureT-loop
 μ-loop text from out₀ count₀ at₀ out count at = length text - at
 
-find-gap-requires : tie.Need-find-gap-requires Inv-loop μ-loop
-find-gap-requires c κs = search needs
+find-requires : tie.Need-find-requires Inv-loop μ-loop
+find-requires c κs = search needs
 
 loop-holds : tie.Need-loop-holds Inv-loop μ-loop
 loop-holds c = search needs
 
-add-find-gap : tie.Need-add-find-gap Inv-loop μ-loop
-add-find-gap c = search needs
+add-find : tie.Need-add-find Inv-loop μ-loop
+add-find c = search needs
 
-find-gap-requires-2 : tie.Need-find-gap-requires-2 Inv-loop μ-loop
-find-gap-requires-2 c κs = search needs
+find-requires-2 : tie.Need-find-requires-2 Inv-loop μ-loop
+find-requires-2 c κs = search needs
 
 sub-worth-of : tie.Need-sub-worth-of Inv-loop μ-loop
 sub-worth-of c = search needs
@@ -67,15 +67,16 @@ same-length-2 c = search needs
 returns-2 : tie.Need-returns-2 Inv-loop μ-loop
 returns-2 c = search needs
 
-find-gap-requires-3 : tie.Need-find-gap-requires-3 Inv-loop μ-loop
-find-gap-requires-3 c κs = search needs
+find-requires-3 : tie.Need-find-requires-3 Inv-loop μ-loop
+find-requires-3 c κs = search needs
 
 loop-less : tie.Need-loop-less Inv-loop μ-loop
 loop-less c = search needs
 
 loop-again : tie.Need-loop-again Inv-loop μ-loop
 loop-again c =
-    let l = c .before .before .before .before .before .before .loop in
+    let read = c .before .before .before in
+    let l = read .before .before .before .loop in
     let same = l .inv .0 in (
       ⊎-elim
           (λ w. ap length (w .4) ∙ (length-set (l .out) (l .count) _ ∙ same))
@@ -96,10 +97,10 @@ arguments-spec =
     (tie.spec
     Inv-loop
     μ-loop
-    find-gap-requires
+    find-requires
     loop-holds
-    add-find-gap
-    find-gap-requires-2
+    add-find
+    find-requires-2
     sub-worth-of
     part-worth-of-start
     part-worth-of-end
@@ -114,7 +115,7 @@ arguments-spec =
     enum-told-2
     same-length-2
     returns-2
-    find-gap-requires-3
+    find-requires-3
     loop-less
     loop-again
     same-length-3

@@ -6,16 +6,19 @@ use Rattle.trials.proofs.places.find.Statement.{statement}
 use Rattle.trials.proofs.places.find.Tie as tie
 
 abbrev Inv-loop : tie.InvT-loop
-Inv-loop text from byte at₀ at = (from ≤ at) × (at ≤ length text)
+Inv-loop text from sought at₀ at = (from ≤ at) × (at ≤ length text)
 
 abbrev μ-loop : tie.MeasureT-loop
-μ-loop text from byte at₀ at = length text - at
+μ-loop text from sought at₀ at = length text - at
 
 loop-holds : tie.Need-loop-holds Inv-loop μ-loop
 loop-holds c = search needs
 
-shared-slice-read-if1 : tie.Need-shared-slice-read-if1 Inv-loop μ-loop
-shared-slice-read-if1 c = search needs
+shared-slice-read-is-sought : tie.Need-shared-slice-read-is-sought Inv-loop μ-loop
+shared-slice-read-is-sought c = search needs
+
+is-sought-requires : tie.Need-is-sought-requires Inv-loop μ-loop
+is-sought-requires c κs = search needs
 
 returns : tie.Need-returns Inv-loop μ-loop
 returns c = search needs
@@ -39,7 +42,8 @@ find-spec =
     Inv-loop
     μ-loop
     loop-holds
-    shared-slice-read-if1
+    shared-slice-read-is-sought
+    is-sought-requires
     returns
     add-at
     loop-less

@@ -17,8 +17,8 @@ loop-holds c = search needs
 find-requires : tie.Need-find-requires Inv-loop μ-loop
 find-requires c κs = search needs
 
-find-gap-requires : tie.Need-find-gap-requires Inv-loop μ-loop
-find-gap-requires c κs = search needs
+find-requires-2 : tie.Need-find-requires-2 Inv-loop μ-loop
+find-requires-2 c κs = search needs
 
 sub-same : tie.Need-sub-same Inv-loop μ-loop
 sub-same c = search needs
@@ -58,7 +58,7 @@ row-of-spec =
     μ-loop
     loop-holds
     find-requires
-    find-gap-requires
+    find-requires-2
     sub-same
     part-same-start
     part-same-end

@@ -4,8 +4,8 @@ use Prim.Native.Nat.{_*_, _%_, _<_, _≤_}
 use native.Mathlib.Nat.{mod-lt, mul-le-mul, pos-of-ne-zero}
 use native.Mathlib.Omega.{arith}
 use lib.Dec.{eqb}
-use Rattle.whole.proofs.Flags.{told-map}
-use Rattle.verdict.proofs.Rests.{rest-of-multiple, equal-tells}
+use Rattle.whole.proofs.Flags.{told-map, equal-tells}
+use Rattle.verdict.proofs.Rests.{rest-of-multiple}
 use Rattle.verdict.proofs.ends.divides_square.Statement.{statement}
 use Rattle.verdict.proofs.ends.divides_square.Tie as tie
 

@@ -16,10 +16,10 @@ use Rattle.whole.proofs.Machine.{cast-asks}
 use Rattle.whole.proofs.Solver.{var, lit, _:+_, _:-_, _:*_, solve}
 use Rattle.whole.proofs.Wholes.{wholes-ring, readℤ}
 use Rattle.pair.specs.declared.Pair.{Pair}
-use Rattle.pair.specs.Pairs.{pairs, norm}
+use Rattle.pair.specs.Pairs.{pairs, norm, cross}
 use Rattle.pair.proofs.Parts.{parts, parts-two, wider}
 use Rattle.pair.proofs.Laws.{norm-nonneg, norm-zero}
-use Rattle.verdict.specs.Rules.{cross, EndDivides}
+use Rattle.verdict.specs.Rules.{EndDivides}
 use Rattle.verdict.proofs.Rests.{divides-by-rest, square-size}
 use Rattle.verdict.proofs.ends.end_divides.Statement.{statement}
 use Rattle.verdict.proofs.ends.end_divides.Tie as tie
@@ -30,7 +30,7 @@ none-divides n e = record {
   factor = pos 0;
   is =
       solve wholes-ring (e .re ∷ e .im ∷ n ∷ []) ((lit 0 :* lit 0 :+ lit 0 :* lit 0) :* lit 0)
-      ((lit 0 :* var 1 :- lit 0 :* var 0) :* (lit 0 :* var 1 :- lit 0 :* var 0) :* var 2) tt;
+      ((lit 0 :* var 1 :- var 0 :* lit 0) :* (lit 0 :* var 1 :- var 0 :* lit 0) :* var 2) tt;
 }
 
 is-zero-requires : tie.Need-is-zero-requires
@@ -63,7 +63,7 @@ cast-divides-square : tie.Need-cast-divides-square
 cast-divides-square c = rw (n-is c) (cast-asks (norm-nonneg (o c .args .d)) (fits-within (lit< tt) (norm-small c)))
 
 cross-requires : tie.Need-cross-requires
-cross-requires c κs = (o c .pre .0, o c .pre .1)
+cross-requires c κs = (wider (lit≤ tt) (o c .pre .0), wider (lit≤ tt) (o c .pre .1))
 
 size-requires : tie.Need-size-requires
 size-requires c κs = search needs

@@ -6,6 +6,7 @@ use Rattle.whole.specs.Number.{Tells}
 use Rattle.pair.specs.Pairs.{AllWithin}
 use Rattle.curve.specs.declared.Legs.{Legs}
 use Rattle.curve.specs.Steps.{legsOf}
+use Rattle.curve.specs.Sizes.{legReach}
 use Rattle.verdict.specs.Steps.{LastEnd}
 use Rattle.verdict.proofs.ends.last_end.Statement.{statement}
 use Rattle.verdict.proofs.ends.last_end.Tie as tie
@@ -15,7 +16,7 @@ enum-known-legs c = search needs
 
 end-divides-requires : tie.Need-end-divides-requires
 end-divides-requires c κs =
-    let h = subst (λ (l : Legs). AllWithin 40000 (legsOf l)) (c .before .legs .given .1) (c .before .before .before .pre) in
+    let h = subst (λ (l : Legs). AllWithin legReach (legsOf l)) (c .before .legs .given .1) (c .before .before .before .pre) in
     (h 2, h 1, lit≤ tt)
 
 enum-known-legs-2 : tie.Need-enum-known-legs-2
@@ -23,7 +24,7 @@ enum-known-legs-2 c = search needs
 
 end-divides-requires-2 : tie.Need-end-divides-requires-2
 end-divides-requires-2 c κs =
-    let h = subst (λ (l : Legs). AllWithin 40000 (legsOf l)) (c .before .legs2 .given .1) (c .before .before .before .pre) in
+    let h = subst (λ (l : Legs). AllWithin legReach (legsOf l)) (c .before .legs2 .given .1) (c .before .before .before .pre) in
     (h 4, h 3, lit≤ tt)
 
 returns : tie.Need-returns

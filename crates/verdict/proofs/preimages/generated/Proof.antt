@@ -7,7 +7,7 @@ use borrow.Author.Needs.{needs}
 use lib.Dec.{lit≤}
 use mir.Syntax.{w64}
 use mir.ValLaws.{toZ-ofZ}
-use Rattle.whole.specs.Poly.{scaled, square}
+use Rattle.poly.specs.Polynomials.{scaled, square}
 use Rattle.poly.specs.Terms.{Top}
 use Rattle.poly.proofs.Top.{top-some, top-scaled, top-product, find-top}
 use Rattle.pair.specs.declared.Pair.{Pair}

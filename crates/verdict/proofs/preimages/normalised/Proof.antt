@@ -6,7 +6,7 @@ use borrow.Author.Needs.{needs}
 use lib.Dec.{lit≤}
 use lib.IntN.{pos, negsuc, _*ℤ_}
 use Rattle.whole.specs.Number.{Tells, FirstPositive}
-use Rattle.whole.specs.Poly.{Same, scaled}
+use Rattle.poly.specs.Polynomials.{Same, scaled}
 use Rattle.poly.proofs.Lists.{scaled-same, scaled-scaled}
 use Rattle.poly.proofs.Top.{top-some, top-same, top-scaled, find-top}
 use Rattle.pair.specs.declared.Pair.{Pair}

@@ -2,7 +2,7 @@
 use mathlib.Core.Path.{refl}
 use Prim.Native.Nat.{zero, suc}
 use lib.Dec.{lit≤}
-use Rattle.whole.specs.Poly.{scaled}
+use Rattle.poly.specs.Polynomials.{scaled}
 use Rattle.pair.proofs.Parts.{wider}
 use Rattle.verdict.proofs.preimages.turned_quadratic.Statement.{statement}
 use Rattle.verdict.proofs.preimages.turned_quadratic.Tie as tie

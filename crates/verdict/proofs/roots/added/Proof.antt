@@ -5,16 +5,17 @@ use Prim.Native.Nat.{ℕ}
 use lib.IntN.{ℤ, _+ℤ_}
 use mir.Syntax.{w64}
 use mir.Val.{SFits, toZ, ofZ}
-use Rattle.whole.specs.Poly.{at, sum}
-use Rattle.whole.specs.Number.{wholes, Within}
+use Rattle.whole.specs.Coefficients.{at}
+use Rattle.poly.specs.Polynomials.{sum}
+use Rattle.whole.specs.Number.{wholes, Within, normSize}
 use Rattle.whole.proofs.Wholes.{readℤ}
 use Rattle.whole.proofs.Bound.{done, _▸_, bounds, fits, kept}
-use Rattle.root.specs.Roots.{nine}
+use Rattle.root.specs.Promise.{octic}
 use Rattle.verdict.proofs.roots.added.Statement.{statement}
 use Rattle.verdict.proofs.roots.added.Tie as tie
 
 -- one coefficient
-module _ {x y : ℤ} (h : Within 10000000000000 x) (k : Within 10000000000000 y) where
+module _ {x y : ℤ} (h : Within normSize x) (k : Within normSize y) where
   sum-fits : SFits w64 (toZ w64 (ofZ w64 x) +ℤ toZ w64 (ofZ w64 y))
   sum-fits = bounds (h ▸ k ▸ done) (λ ρ e k. simp (e 0, e 1, readℤ, kept k) (fits k _ refl))
 
@@ -26,11 +27,11 @@ module _ (c : tie.After-struct-told18) where
   abbrev o : tie.Start
   o = c .before .before .before .before .before .before .before .before .before .before .before .before .before .before .before .before .before .before
 
-  numbers-fit : (k : ℕ) → SFits w64 (toZ w64 (ofZ w64 (at wholes (nine (o .args .a)) k)) +ℤ toZ w64 (ofZ w64 (at wholes (nine (o .args .b)) k)))
+  numbers-fit : (k : ℕ) → SFits w64 (toZ w64 (ofZ w64 (at wholes (octic (o .args .a)) k)) +ℤ toZ w64 (ofZ w64 (at wholes (octic (o .args .b)) k)))
   numbers-fit k = sum-fits (o .pre .0 k) (o .pre .1 k)
 
-  numbers-are : (k : ℕ) → toZ w64 (ofZ w64 (toZ w64 (ofZ w64 (at wholes (nine (o .args .a)) k)) +ℤ toZ w64 (ofZ w64 (at wholes (nine (o .args .b)) k))))
-      ≡ at wholes (nine (o .args .a)) k +ℤ at wholes (nine (o .args .b)) k
+  numbers-are : (k : ℕ) → toZ w64 (ofZ w64 (toZ w64 (ofZ w64 (at wholes (octic (o .args .a)) k)) +ℤ toZ w64 (ofZ w64 (at wholes (octic (o .args .b)) k))))
+      ≡ at wholes (octic (o .args .a)) k +ℤ at wholes (octic (o .args .b)) k
   numbers-are k = sum-is (o .pre .0 k) (o .pre .1 k)
 
 add-t21 : tie.Need-add-t21

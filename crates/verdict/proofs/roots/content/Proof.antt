@@ -10,12 +10,12 @@ use lib.Signed.{_<ℤ_}
 use mir.Syntax.{w64}
 use mir.Val.{toZ, ofZ}
 use mir.ValLaws.{toZ-pos}
-use Rattle.whole.specs.Poly.{Greatest}
-use Rattle.whole.specs.Number.{wholes, Within}
+use Rattle.whole.specs.Coefficients.{Greatest}
+use Rattle.whole.specs.Number.{wholes, Within, normSize}
 use Rattle.whole.proofs.Bound.{read-back, fits-within}
 use Rattle.whole.proofs.Linear.{linear}
-use Rattle.root.specs.declared.Nine.{Nine}
-use Rattle.root.specs.Roots.{nine, Sized}
+use Rattle.root.specs.declared.Octic.{Octic}
+use Rattle.root.specs.Promise.{octic, Sized}
 use Rattle.verdict.proofs.Contents.{content-sized}
 use Rattle.verdict.proofs.roots.content.Statement.{statement}
 use Rattle.verdict.proofs.roots.content.Tie as tie
@@ -30,7 +30,7 @@ module _ (c : tie.After-gcd-all) where
   abbrev o : tie.Start
   o = c .before .before .before
 
-  abbrev n : Nine
+  abbrev n : Octic
   n = o .args .n
 
   abbrev g : ℕ
@@ -39,15 +39,15 @@ module _ (c : tie.After-gcd-all) where
   abbrev bits : ℤ → ℤ
   bits x = toZ w64 (ofZ w64 x)
 
-  listed : bits (n .m0) ∷ bits (n .m1) ∷ bits (n .m2) ∷ bits (n .m3) ∷ bits (n .m4) ∷ bits (n .m5) ∷ bits (n .m6) ∷ bits (n .m7) ∷ bits (n .m8) ∷ [] ≡ nine n
+  listed : bits (n .m0) ∷ bits (n .m1) ∷ bits (n .m2) ∷ bits (n .m3) ∷ bits (n .m4) ∷ bits (n .m5) ∷ bits (n .m6) ∷ bits (n .m7) ∷ bits (n .m8) ∷ [] ≡ octic n
   listed i = let s = o .pre .0 in
       read-back tt (s 0) i ∷ read-back tt (s 1) i ∷ read-back tt (s 2) i ∷ read-back tt (s 3) i ∷ read-back tt (s 4) i ∷ read-back tt (s 5) i ∷ read-back tt (s 6) i ∷ read-back tt (s 7) i ∷ read-back tt (s 8) i ∷ []
 
-  greatest : Greatest wholes (nine n) (pos g)
+  greatest : Greatest wholes (octic n) (pos g)
   greatest = subst (λ (p : List ℤ). Greatest wholes p (pos g)) listed (c .gcd-all .ensures)
 
-  sizes : (0 < g) × (g ≤ 10000000000000)
-  sizes = content-sized (nine n) g (o .pre .0) (o .pre .1) greatest
+  sizes : (0 < g) × (g ≤ normSize)
+  sizes = content-sized (octic n) g (o .pre .0) (o .pre .1) greatest
 
   small : Sized (pos g)
   small = record { size = sizes .1 }

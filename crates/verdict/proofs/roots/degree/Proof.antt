@@ -2,42 +2,42 @@
 use Prim.Native.Nat.{zero, suc}
 use native.Mathlib.Omega.{arith}
 use borrow.Author.Needs.{needs}
-use Rattle.whole.specs.Poly.{at}
+use Rattle.whole.specs.Coefficients.{at}
 use Rattle.whole.proofs.Flags.{told, untold}
 use Rattle.poly.specs.Terms.{Above}
 use Rattle.poly.proofs.Top.{length-above, above-lowered}
 use Rattle.pair.specs.Pairs.{pairs}
-use Rattle.curve.specs.declared.Five.{Five}
-use Rattle.curve.specs.Steps.{five}
+use Rattle.curve.specs.declared.LegPowers.{LegPowers}
+use Rattle.curve.specs.Steps.{legPowers}
 use Rattle.verdict.proofs.roots.degree.Statement.{statement}
 use Rattle.verdict.proofs.roots.degree.Tie as tie
 
-above-4 : (e : Five) → Above pairs (at pairs (five e)) 4
-above-4 e = length-above pairs (five e) 4 (omega arith)
+above-4 : (e : LegPowers) → Above pairs (at pairs (legPowers e)) 4
+above-4 e = length-above pairs (legPowers e) 4 (omega arith)
 
 -- the polynomial, from the places on the way
-abbrev D : tie.After-e4 → Five
+abbrev D : tie.After-e4 → LegPowers
 D c = c .before .before .before .before .before .args .e
 
-abbrev D1 : tie.Else1 → Five
+abbrev D1 : tie.Else1 → LegPowers
 D1 c = D (c .before .before)
 
-abbrev D2 : tie.Else2 → Five
+abbrev D2 : tie.Else2 → LegPowers
 D2 c = D1 (c .before .before)
 
-abbrev D3 : tie.Else3 → Five
+abbrev D3 : tie.Else3 → LegPowers
 D3 c = D2 (c .before .before)
 
-below-1 : (c : tie.Else1) → Above pairs (at pairs (five (D1 c))) 3
+below-1 : (c : tie.Else1) → Above pairs (at pairs (legPowers (D1 c))) 3
 below-1 c = above-lowered pairs (above-4 (D1 c)) (told (c .before .is-zero .result) (c .before .is-zero .ensures) (c .if1 .left))
 
-below-2 : (c : tie.Else2) → Above pairs (at pairs (five (D2 c))) 2
+below-2 : (c : tie.Else2) → Above pairs (at pairs (legPowers (D2 c))) 2
 below-2 c = above-lowered pairs (below-1 (c .before .before)) (told (c .before .is-zero2 .result) (c .before .is-zero2 .ensures) (c .if2 .left))
 
-below-3 : (c : tie.Else3) → Above pairs (at pairs (five (D3 c))) 1
+below-3 : (c : tie.Else3) → Above pairs (at pairs (legPowers (D3 c))) 1
 below-3 c = above-lowered pairs (below-2 (c .before .before)) (told (c .before .is-zero3 .result) (c .before .is-zero3 .ensures) (c .if3 .left))
 
-below-4 : (c : tie.Else4) → Above pairs (at pairs (five (D3 (c .before .before)))) 0
+below-4 : (c : tie.Else4) → Above pairs (at pairs (legPowers (D3 (c .before .before)))) 0
 below-4 c = above-lowered pairs (below-3 (c .before .before)) (told (c .before .is-zero4 .result) (c .before .is-zero4 .ensures) (c .if4 .left))
 
 is-zero-requires : tie.Need-is-zero-requires

@@ -4,12 +4,12 @@ use Prim.Native.Nat.{ℕ}
 use lib.IntN.{ℤ, _*ℤ_}
 use mir.Syntax.{w64}
 use mir.Val.{toZ, ofZ}
-use Rattle.whole.specs.Poly.{at}
-use Rattle.whole.specs.Number.{wholes, Within}
-use Rattle.whole.specs.Quotients.{Shares}
+use Rattle.whole.specs.Coefficients.{at}
+use Rattle.whole.specs.Number.{wholes, Within, normSize}
+use Rattle.whole.specs.Promise.{Shares}
 use Rattle.whole.proofs.Bound.{read-back}
-use Rattle.root.specs.Roots.{nine, Sized}
-use Rattle.verdict.proofs.Contents.{nine-each, nine-shared}
+use Rattle.root.specs.Promise.{octic, Sized}
+use Rattle.verdict.proofs.Contents.{octic-each, octic-shared}
 use Rattle.verdict.proofs.roots.shared.Statement.{statement}
 use Rattle.verdict.proofs.roots.shared.Tie as tie
 
@@ -17,15 +17,15 @@ abbrev bits : ℤ → ℤ
 bits x = toZ w64 (ofZ w64 x)
 
 -- what each call asks
-shares : (s : tie.Start) (k : ℕ) → Shares (bits (at wholes (nine (s .args .n)) k)) (bits (s .args .c))
+shares : (s : tie.Start) (k : ℕ) → Shares (bits (at wholes (octic (s .args .n)) k)) (bits (s .args .c))
 shares s k = rw (read-back tt (s .pre .0 k), read-back tt (s .pre .3)) (record { whole = s .pre .1 .divides k; positive = s .pre .2; n-small = s .pre .0 k; d-small = s .pre .3 })
 
 -- what each call answers
-answered : (s : tie.Start) (k : ℕ) {r : ℤ} → (bits (s .args .c) *ℤ r ≡ bits (at wholes (nine (s .args .n)) k)) × Within 10000000000000 r → s .args .c *ℤ bits r ≡ at wholes (nine (s .args .n)) k
+answered : (s : tie.Start) (k : ℕ) {r : ℤ} → (bits (s .args .c) *ℤ r ≡ bits (at wholes (octic (s .args .n)) k)) × Within normSize r → s .args .c *ℤ bits r ≡ at wholes (octic (s .args .n)) k
 answered s k h = ap₂ _*ℤ_ (sym (read-back tt (s .pre .3))) (read-back tt (h .1)) ∙ h .0 ∙ read-back tt (s .pre .0 k)
 
-kept : {r : ℤ} → Within 10000000000000 r → Sized (bits r)
-kept h = subst (Within 10000000000000) (sym (read-back tt h)) h
+kept : {r : ℤ} → Within normSize r → Sized (bits r)
+kept h = subst (Within normSize) (sym (read-back tt h)) h
 
 abbrev s1 : tie.After-struct-told → tie.Start
 s1 c = c .before
@@ -115,8 +115,8 @@ module _ (c : tie.After-share9) where
 
 returns : tie.Need-returns
 returns c = (
-  nine-shared (o c .args .c) _ (o c .args .n) (answered (o c) 0 (c1 c .share .ensures)) (answered (o c) 1 (c2 c .share2 .ensures)) (answered (o c) 2 (c3 c .share3 .ensures)) (answered (o c) 3 (c4 c .share4 .ensures)) (answered (o c) 4 (c5 c .share5 .ensures)) (answered (o c) 5 (c6 c .share6 .ensures)) (answered (o c) 6 (c7 c .share7 .ensures)) (answered (o c) 7 (c8 c .share8 .ensures)) (answered (o c) 8 (c9 c .share9 .ensures)),
-  nine-each _ (kept (c1 c .share .ensures .1)) (kept (c2 c .share2 .ensures .1)) (kept (c3 c .share3 .ensures .1)) (kept (c4 c .share4 .ensures .1)) (kept (c5 c .share5 .ensures .1)) (kept (c6 c .share6 .ensures .1)) (kept (c7 c .share7 .ensures .1)) (kept (c8 c .share8 .ensures .1)) (kept (c9 c .share9 .ensures .1)),
+  octic-shared (o c .args .c) _ (o c .args .n) (answered (o c) 0 (c1 c .share .ensures)) (answered (o c) 1 (c2 c .share2 .ensures)) (answered (o c) 2 (c3 c .share3 .ensures)) (answered (o c) 3 (c4 c .share4 .ensures)) (answered (o c) 4 (c5 c .share5 .ensures)) (answered (o c) 5 (c6 c .share6 .ensures)) (answered (o c) 6 (c7 c .share7 .ensures)) (answered (o c) 7 (c8 c .share8 .ensures)) (answered (o c) 8 (c9 c .share9 .ensures)),
+  octic-each _ (kept (c1 c .share .ensures .1)) (kept (c2 c .share2 .ensures .1)) (kept (c3 c .share3 .ensures .1)) (kept (c4 c .share4 .ensures .1)) (kept (c5 c .share5 .ensures .1)) (kept (c6 c .share6 .ensures .1)) (kept (c7 c .share7 .ensures .1)) (kept (c8 c .share8 .ensures .1)) (kept (c9 c .share9 .ensures .1)),
 )
 
 pub shared-spec : {M : Type 1} → statement M

@@ -8,7 +8,8 @@ use lib.IntN.{ℤ, pos}
 use lib.Signed.{_<ℤ_}
 use mir.Syntax.{w64}
 use mir.Val.{toZ, ofZ}
-use Rattle.whole.specs.Poly.{at, Same, Greatest, scaled}
+use Rattle.whole.specs.Coefficients.{at, Greatest}
+use Rattle.poly.specs.Polynomials.{Same, scaled}
 use Rattle.whole.specs.Number.{wholes}
 use Rattle.whole.proofs.Bound.{read-back}
 use Rattle.whole.proofs.Linear.{linear}
@@ -19,11 +20,12 @@ use Rattle.poly.proofs.Content.{greatest-same}
 use Rattle.poly.proofs.Wholes.{wholes-domain}
 use Rattle.pair.specs.declared.Pair.{Pair}
 use Rattle.pair.specs.Pairs.{pairs, AllWithin}
-use Rattle.root.specs.Roots.{nine, Sized, IsWholeRoot}
+use Rattle.root.specs.Promise.{octic, Sized, Positive, IsWholeRoot}
 use Rattle.root.specs.Search.{Each}
-use Rattle.curve.specs.Curves.{powerForm, squaredLength}
-use Rattle.curve.specs.Steps.{legsOf, five}
-use Rattle.curve.proofs.Lengths.{squaredLength-same, squaredLength-top}
+use Rattle.bernstein.specs.Powers.{powerForm}
+use Rattle.curve.specs.Curves.{normPolynomial}
+use Rattle.curve.specs.Steps.{legsOf, legPowers}
+use Rattle.curve.proofs.Norms.{normPolynomial-same, normPolynomial-top}
 use Rattle.verdict.specs.Verdicts.{Still, SquareOf}
 use Rattle.verdict.specs.Steps.{IsHighest, OfCurve}
 use Rattle.verdict.proofs.Squares.{no-root-not-squared, root-square-of}
@@ -46,7 +48,7 @@ module _ (c : tie.After-drawn) where
   D = powerForm (legsOf (o .args .legs))
 
   abbrev e : List Pair
-  e = five (c .drawn .result)
+  e = legPowers (c .drawn .result)
 
   drawn-is : Same pairs e D
   drawn-is = c .drawn .ensures
@@ -68,11 +70,11 @@ returns c k =
     let t = c .before .before .before in
     sym (drawn-is t k) ∙ subst (IsHighest (e t)) (c .enum-told .given .1) (c .before .before .degree .ensures) k
 
-squared-length-requires : tie.Need-squared-length-requires
-squared-length-requires c κs = e-small (c .before .before .before .before)
+norm-polynomial-requires : tie.Need-norm-polynomial-requires
+norm-polynomial-requires c κs = e-small (c .before .before .before .before)
 
 -- ---- N
-module _ (c : tie.After-squared-length) where
+module _ (c : tie.After-norm-polynomial) where
   abbrev k : tie.After-known-told
   k = c .before
 
@@ -86,10 +88,10 @@ module _ (c : tie.After-squared-length) where
   high = subst (IsHighest (e t)) (k .before .l .given .1) (k .before .before .before .degree .ensures)
 
   abbrev n : List ℤ
-  n = nine (c .squared-length .result)
+  n = octic (c .norm-polynomial .result)
 
-  n-is : Same wholes n (squaredLength (D t))
-  n-is j = c .squared-length .ensures j ∙ squaredLength-same (e t) (D t) (drawn-is t) j
+  n-is : Same wholes n (normPolynomial (D t))
+  n-is j = c .norm-polynomial .ensures j ∙ normPolynomial-same (e t) (D t) (drawn-is t) j
 
   n-sized : Each wholes Sized n
   n-sized j = rw (n-is j) (length-sized (D t) (of-curve t) j)
@@ -98,7 +100,7 @@ module _ (c : tie.After-squared-length) where
   top = top-same (drawn-is t) (high .0)
 
   n-top : Top wholes n (l + l)
-  n-top = top-same (λ j. sym (n-is j)) (squaredLength-top top)
+  n-top = top-same (λ j. sym (n-is j)) (normPolynomial-top top)
 
   moves : Still (D t) → ⊥
   moves = top-some top
@@ -108,7 +110,7 @@ content-requires c κs = (n-sized c, top-some (n-top c))
 
 -- ---- its content
 module _ (c : tie.After-content) where
-  abbrev p : tie.After-squared-length
+  abbrev p : tie.After-norm-polynomial
   p = c .before
 
   abbrev x : ℤ
@@ -117,11 +119,13 @@ module _ (c : tie.After-content) where
   x-kept : toZ w64 (ofZ w64 x) ≡ x
   x-kept = read-back tt (c .content .ensures .2)
 
-  content-is : Greatest wholes (squaredLength (D (t p))) x
+  content-is : Greatest wholes (normPolynomial (D (t p))) x
   content-is = greatest-same (n-is p) (c .content .ensures .0)
 
 shared-requires : tie.Need-shared-requires
-shared-requires c κs = let h = c .content .ensures in rw (x-kept c) (n-sized (p c), h .0, h .1, h .2)
+shared-requires c κs =
+    let h = c .content .ensures in
+    (n-sized (p c), subst (Greatest wholes (n (p c))) (sym (x-kept c)) (h .0), subst Positive (sym (x-kept c)) (h .1), subst Sized (sym (x-kept c)) (h .2))
 
 -- ---- N / c
 module _ (c : tie.After-shared) where
@@ -129,12 +133,12 @@ module _ (c : tie.After-shared) where
   f = c .before
 
   abbrev M : List ℤ
-  M = nine (c .shared .result)
+  M = octic (c .shared .result)
 
   answered : Same wholes (scaled wholes (x f) M) (n (p f)) × Each wholes Sized M
   answered = rw (x-kept f) at (c .shared .ensures)
 
-  multiple : Same wholes (scaled wholes (x f) M) (squaredLength (D (t (p f))))
+  multiple : Same wholes (scaled wholes (x f) M) (normPolynomial (D (t (p f))))
   multiple j = answered .0 j ∙ n-is (p f) j
 
   some : x f ≢ pos 0
@@ -185,7 +189,7 @@ squared-spec =
     enum-known-l
     enum-told
     returns
-    squared-length-requires
+    norm-polynomial-requires
     content-requires
     shared-requires
     whole-root-requires

@@ -4,18 +4,20 @@ use mathlib.Core.List.{List, [], _∷_}
 use Prim.Native.Nat.{zero, suc}
 use lib.Dec.{lit≤}
 use lib.IntN.{pos}
-use Rattle.whole.specs.Poly.{Same, Divides, Greatest, scaled}
+use Rattle.poly.specs.Polynomials.{Same, scaled}
+use Rattle.whole.specs.Coefficients.{Divides, Greatest}
 use Rattle.pair.specs.declared.Pair.{Pair}
 use Rattle.pair.specs.Pairs.{pairs, plus, minus, times, multiple, PartsWithin, AllWithin}
 use Rattle.pair.proofs.Parts.{wider, zero-within, plus-within, minus-within, multiple-within}
 use Rattle.divisor.proofs.Divisors.{greatest-within}
-use Rattle.curve.specs.Curves.{powerForm}
+use Rattle.bernstein.specs.Powers.{powerForm}
 use Rattle.verdict.specs.Rules.{QuinticRule, parabolaRoot}
 use Rattle.verdict.specs.Verdicts.{quadratic}
 use Rattle.verdict.proofs.ByRoot.{root-whole}
 use Rattle.verdict.proofs.RulesMet.{quintic-root, greatest-three, quintic-divisor, first-divisor, quintic-preimage}
 use Rattle.verdict.proofs.rules.by_middle.Statement.{statement}
 use Rattle.verdict.proofs.rules.by_middle.Tie as tie
+use Rattle.verdict.specs.Steps.{middleSize}
 
 multiple-requires : tie.Need-multiple-requires
 multiple-requires c κs = (record { size = lit≤ tt }, wider (lit≤ tt) (c .pre .1))
@@ -41,12 +43,12 @@ module _ (c : tie.After-gcd) where
   abbrev m : Pair
   m = o .args .m
 
-  two-small : AllWithin 56568 (m ∷ d0 ∷ [])
+  two-small : AllWithin middleSize (m ∷ d0 ∷ [])
   two-small zero = o .pre .2
   two-small (suc zero) = wider (lit≤ tt) (o .pre .0)
   two-small (suc (suc k)) = zero-within
 
-  g-small : PartsWithin 56568 (c .gcd .result)
+  g-small : PartsWithin middleSize (c .gcd .result)
   g-small = greatest-within two-small (c .gcd .ensures)
 
 gcd-requires-2 : tie.Need-gcd-requires-2

@@ -5,12 +5,13 @@ use Prim.Native.Nat.{zero, suc}
 use borrow.Author.Needs.{needs}
 use lib.Dec.{lit≤}
 use lib.IntN.{pos}
-use Rattle.whole.specs.Poly.{at, Same}
+use Rattle.whole.specs.Coefficients.{at}
+use Rattle.poly.specs.Polynomials.{Same}
 use Rattle.whole.proofs.Flags.{told, untold}
 use Rattle.pair.specs.declared.Pair.{Pair}
 use Rattle.pair.specs.Pairs.{pairs, multiple}
 use Rattle.pair.proofs.Parts.{wider, multiple-within}
-use Rattle.curve.specs.Curves.{powerForm}
+use Rattle.bernstein.specs.Powers.{powerForm}
 use Rattle.verdict.specs.declared.Quadratic.{Quadratic}
 use Rattle.verdict.specs.declared.rules.Generator.{Generator}
 use Rattle.verdict.specs.Rules.{CubicRule}

@@ -6,9 +6,10 @@ use lib.Dec.{lit≤}
 use Rattle.pair.specs.declared.Pair.{Pair}
 use Rattle.pair.specs.Pairs.{AllWithin}
 use Rattle.pair.proofs.Parts.{wider}
+use Rattle.bernstein.specs.Powers.{powerForm}
 use Rattle.curve.specs.declared.Legs.{Legs}
-use Rattle.curve.specs.Curves.{powerForm}
 use Rattle.curve.specs.Steps.{legsOf}
+use Rattle.curve.specs.Sizes.{legReach}
 use Rattle.verdict.specs.declared.rules.Generation.{Generation}
 use Rattle.verdict.specs.declared.rules.Generation.the-variants.{Found, None}
 use Rattle.verdict.specs.Steps.{IsGeneration, IsLine}
@@ -24,14 +25,14 @@ enum-known-legs c = search needs
 
 line-generator-requires : tie.Need-line-generator-requires
 line-generator-requires c κs =
-    let h = subst (λ (l : Legs). AllWithin 40000 (legsOf l)) (c .before .legs .given .1) (c .before .before .before .pre) in
+    let h = subst (λ (l : Legs). AllWithin legReach (legsOf l)) (c .before .legs .given .1) (c .before .before .before .pre) in
     (wider (lit≤ tt) (h 0), wider (lit≤ tt) (h 1), wider (lit≤ tt) (h 2))
 
 enum-known-legs-2 : tie.Need-enum-known-legs-2
 enum-known-legs-2 c = search needs
 
 quintic-generator-requires : tie.Need-quintic-generator-requires
-quintic-generator-requires c κs = subst (λ (l : Legs). AllWithin 40000 (legsOf l)) (c .before .legs2 .given .1) (c .before .before .before .pre)
+quintic-generator-requires c κs = subst (λ (l : Legs). AllWithin legReach (legsOf l)) (c .before .legs2 .given .1) (c .before .before .before .pre)
 
 returns : tie.Need-returns
 returns c =

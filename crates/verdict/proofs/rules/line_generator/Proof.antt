@@ -6,7 +6,8 @@ use Prim.Native.Nat.{ℕ, zero, suc}
 use borrow.Author.Needs.{needs}
 use lib.Dec.{lit≤}
 use Rattle.whole.specs.Number.{Tells}
-use Rattle.whole.specs.Poly.{at, Same, Divides, Greatest, scaled}
+use Rattle.whole.specs.Coefficients.{at, Divides, Greatest}
+use Rattle.poly.specs.Polynomials.{Same, scaled}
 use Rattle.whole.proofs.Divisor.{divides-none}
 use Rattle.whole.proofs.Flags.{told, untold}
 use Rattle.poly.proofs.Lists.{at-scaled}
@@ -15,7 +16,7 @@ use Rattle.pair.specs.Pairs.{pairs, minus, times, one, PartsWithin, AllWithin}
 use Rattle.pair.proofs.Parts.{wider, zero-within, minus-within}
 use Rattle.pair.proofs.Laws.{pairs-ring, pairs-domain}
 use Rattle.divisor.proofs.Divisors.{greatest-within}
-use Rattle.curve.specs.Curves.{powerForm}
+use Rattle.bernstein.specs.Powers.{powerForm}
 use Rattle.verdict.specs.Rules.{CubicRule, lineRoot, ByDivisor}
 use Rattle.verdict.specs.Verdicts.{quadratic, Coprime, Generated}
 use Rattle.verdict.specs.Steps.{Shared, Over, Generates}

@@ -4,7 +4,7 @@ use mathlib.Core.List.{[], _∷_}
 use borrow.Author.Needs.{needs}
 use lib.Dec.{lit≤}
 use lib.IntN.{pos}
-use Rattle.whole.specs.Poly.{Divides}
+use Rattle.whole.specs.Coefficients.{Divides}
 use Rattle.whole.proofs.Flags.{told, untold}
 use Rattle.poly.proofs.Domain.{times-cancel}
 use Rattle.pair.specs.declared.Pair.{Pair}
@@ -12,12 +12,13 @@ use Rattle.pair.specs.Pairs.{pairs, plus, minus, times, multiple, PartsWithin}
 use Rattle.pair.proofs.Parts.{wider, minus-within, multiple-within, times-within}
 use Rattle.pair.proofs.Laws.{pairs-ring, pairs-domain}
 use Rattle.pair.proofs.PairSolver.{the, _⊞_, _⊟_, _⊠_, _··_, solve-pairs}
-use Rattle.divisor.specs.Quotients.{IsPairQuotient}
+use Rattle.divisor.specs.Promise.{IsPairQuotient}
 use Rattle.divisor.proofs.Division.{quotient-within}
 use Rattle.verdict.specs.Rules.{QuinticRule}
 use Rattle.verdict.proofs.Decided.{middle-within}
 use Rattle.verdict.proofs.rules.middle_of.Statement.{statement}
 use Rattle.verdict.proofs.rules.middle_of.Tie as tie
+use Rattle.verdict.specs.Steps.{middleSize}
 
 product-requires : tie.Need-product-requires
 product-requires c κs = (wider (lit≤ tt) (c .pre .1), wider (lit≤ tt) (c .pre .1))
@@ -118,7 +119,7 @@ returns-2 c d3 d4 n h r =
     let u = t (k s) in
     let same : n ≡ m s = times-cancel pairs-ring pairs-domain (d0 u) n (m s) (o u .pre .3) (r .second ∙ sym (second s)) in
     untold (c .before .within .result) (c .before .within .ensures) (c .if1 .taken)
-    (subst (PartsWithin 56568) same (middle-within (d0 u) (d1 u) (d2 u) d3 d4 n (o u .pre .0) h r))
+    (subst (PartsWithin middleSize) same (middle-within (d0 u) (d1 u) (d2 u) d3 d4 n (o u .pre .0) h r))
 
 returns-3 : tie.Need-returns-3
 returns-3 c = let s = c .before .before in (second s, told (c .before .within .result) (c .before .within .ensures) (c .if1 .left))

@@ -2,7 +2,7 @@
 use mathlib.Core.Path.{_≡_, sym, ap, _∙_}
 use mathlib.Core.Logic.{_≢_}
 use Prim.Native.Nat.{_^_}
-use Rattle.whole.specs.Poly.{Divides}
+use Rattle.whole.specs.Coefficients.{Divides}
 use Rattle.whole.proofs.Ring.{none-times, times-none}
 use Rattle.poly.proofs.Domain.{times-cancel}
 use Rattle.pair.specs.declared.Pair.{Pair}

@@ -9,7 +9,7 @@ use Rattle.whole.proofs.Flags.{told, untold}
 use Rattle.pair.specs.declared.Pair.{Pair}
 use Rattle.pair.specs.Pairs.{pairs, times}
 use Rattle.pair.proofs.Parts.{wider}
-use Rattle.curve.specs.Curves.{powerForm}
+use Rattle.bernstein.specs.Powers.{powerForm}
 use Rattle.verdict.specs.declared.rules.Middle.the-variants as middles
 use Rattle.verdict.specs.Rules.{QuinticRule}
 use Rattle.verdict.specs.Verdicts.{NotGenerated}
@@ -122,7 +122,7 @@ module _ (c : tie.After-equal2) where
   q = third .before
 
   fourth-is : Tells (times (m (k q)) (m (k q)) ≡ times (d0 (s (k q))) (d4 (s (k q)))) (c .equal2 .result)
-  fourth-is = rw (c .before .before .product3 .ensures, c .before .product4 .ensures) at (c .equal2 .ensures)
+  fourth-is = subst (λ X. X) (λ i. Tells (c .before .before .product3 .ensures i ≡ c .before .product4 .ensures i) (c .equal2 .result)) (c .equal2 .ensures)
 
 returns-4 : tie.Need-returns-4
 returns-4 c = let t = c .before in not-by (q t) (λ r. untold (t .equal2 .result) (fourth-is t) (c .if3 .taken) (r .fourth))

@@ -6,14 +6,15 @@ use lib.Dec.{lit≤}
 use lib.IntN.{ℤ, pos, _+ℤ_, _*ℤ_}
 use mir.Syntax.{w64}
 use mir.Val.{toZ, ofZ}
-use Rattle.whole.specs.Poly.{at, sum, scaled, product}
+use Rattle.whole.specs.Coefficients.{at}
+use Rattle.poly.specs.Polynomials.{sum, scaled, product}
 use Rattle.whole.specs.Number.{wholes}
 use Rattle.whole.proofs.Wholes.{readℤ, read-pos, atomsℤ, ringℤ}
 use Rattle.whole.proofs.Bound.{Bounded, done, _▸_, bounds, fits, kept}
 use Rattle.pair.specs.Pairs.{pair}
 use Rattle.pair.proofs.Parts.{wider}
 use Rattle.verdict.specs.declared.Quadratic.{Quadratic}
-use Rattle.curve.specs.Curves.{squaredLength}
+use Rattle.curve.specs.Curves.{normPolynomial}
 use Rattle.verdict.proofs.speeds.speed.Statement.{statement}
 use Rattle.verdict.proofs.speeds.speed.Tie as tie
 
@@ -76,13 +77,13 @@ add-is c =
     bounds (sizes (o3 c))
     (λ ρ e k. simp (c .before .before .before .dot2 .ensures, c .before .before .norm2 .ensures, e 0, e 1, e 2, e 3, e 4, e 5, readℤ, read-pos ρ 2, kept k))
 
-middle : (a b x y u v : ℤ) → pos 2 *ℤ (a *ℤ u +ℤ b *ℤ v) +ℤ (x *ℤ x +ℤ y *ℤ y) ≡ at wholes (squaredLength (pair a b ∷ pair x y ∷ pair u v ∷ [])) 2
-unfolding squaredLength sum scaled product
+middle : (a b x y u v : ℤ) → pos 2 *ℤ (a *ℤ u +ℤ b *ℤ v) +ℤ (x *ℤ x +ℤ y *ℤ y) ≡ at wholes (normPolynomial (pair a b ∷ pair x y ∷ pair u v ∷ [])) 2
+unfolding normPolynomial sum scaled product
 middle a b x y u v =
     atomsℤ (a ∷ b ∷ x ∷ y ∷ u ∷ v ∷ []) (λ ρ e. simp (e 0, e 1, e 2, e 3, e 4, e 5, readℤ, read-pos ρ 0, read-pos ρ 2) (ringℤ ρ _ _ tt))
 
 returns : tie.Need-returns
-unfolding squaredLength sum scaled product
+unfolding normPolynomial sum scaled product
 returns c zero =
     bounds (sizes (o3 c))
     (λ ρ e k. simp (c .before .before .before .before .before .norm .ensures, e 0, e 1, readℤ, read-pos ρ 0, kept k) (ringℤ ρ _ _ tt))

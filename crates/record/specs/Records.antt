@@ -1,0 +1,70 @@
+-- One step of reading a sheet: what stands at the start of the bytes that are left. By tests, in the order of 01, "The parameter sheet".
+--   longest, erased, erasedLength   how many bytes a sheet has at most; the byte FF; the length FFFF
+--   erasedBytes  how many bytes FF a list begins with
+--   named        the two bytes after the length are a kind's name
+--   kindIn       the kind that they name
+--   allWithin    every number is from −20,000 to 20,000
+--   erasedStep, sizedStep, kindStep   the tests behind an erased length, of a known kind, and of the kind
+--   stepOf       the step. Places count from the first byte left
+use mathlib.Core.Bool.{Bool, true, not, _&&_}
+use mathlib.Core.List.{List, [], _∷_}
+use Prim.Native.Nat.{ℕ, suc}
+use lib.Dec.{ltb, leb, eqb}
+use lib.ListN.{length, getD}
+use lib.IntN.{ℤ, natAbs}
+use Rattle.refusal.specs.declared.Refusal.the-variants as refusal
+use Rattle.refusal.specs.Answers.{if_then_else_}
+use Rattle.record.specs.Numbers.{sizeOf, coordinates}
+use Rattle.record.specs.declared.kinds.Kind.{Kind}
+use Rattle.record.specs.declared.kinds.Named.{Named}
+use Rattle.record.specs.declared.kinds.Named.the-variants as named-as
+use Rattle.record.specs.Kinds.{rowOf, kinds, words}
+use Rattle.record.specs.declared.steps.Step.{Step}
+use Rattle.record.specs.declared.steps.Step.the-variants.{Ends, Fault, Record}
+
+abbrev pub longest : ℕ
+longest = 4096
+
+abbrev pub erased : ℕ
+erased = 255
+
+abbrev pub erasedLength : ℕ
+erasedLength = 65535
+
+abbrev pub erasedBytes : List ℕ → ℕ
+erasedBytes [] = 0
+erasedBytes (b ∷ bytes) = if eqb b erased then suc (erasedBytes bytes) else 0
+
+-- what an erased length begins: every byte left must be FF
+unfoldable pub erasedStep : List ℕ → Step
+erasedStep rest = if ltb (erasedBytes rest) (length rest) then Fault refusal.Leftover (erasedBytes rest) else Ends
+
+unfoldable pub named : Kind → List ℕ → Bool
+named k rest = eqb (getD rest 2 0) (getD (rowOf k .name) 0 0) && eqb (getD rest 3 0) (getD (rowOf k .name) 1 0)
+
+unfoldable pub kindIn : List Kind → List ℕ → Named
+kindIn [] rest = named-as.Unknown
+kindIn (k ∷ ks) rest = if named k rest then named-as.Kind k else kindIn ks rest
+
+unfoldable pub allWithin : List ℤ → Bool
+allWithin [] = true
+allWithin (x ∷ xs) = leb (natAbs x) 20000 && allWithin xs
+
+unfoldable pub sizedStep : Kind → List ℕ → Step
+sizedStep k rest =
+    if not (eqb (sizeOf rest) (rowOf k .size)) then Fault refusal.Length 0
+    else if ltb (length rest) (rowOf k .size) then Fault refusal.Cut 0
+    else if not (allWithin (coordinates (words k) rest 4)) then Fault refusal.Range 0
+    else Record k
+
+abbrev pub kindStep : List ℕ → Named → Step
+kindStep rest (named-as.Kind k) = sizedStep k rest
+kindStep rest named-as.Unknown = Fault refusal.Kind 0
+
+unfoldable pub stepOf : List ℕ → Step
+stepOf rest =
+    if eqb (length rest) 0 then Ends
+    else if eqb (length rest) 1 then (if eqb (getD rest 0 0) erased then Ends else Fault refusal.Cut 0)
+    else if eqb (sizeOf rest) erasedLength then erasedStep rest
+    else if ltb (length rest) 4 then Fault refusal.Cut 0
+    else kindStep rest (kindIn kinds rest)

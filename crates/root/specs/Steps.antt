@@ -1,0 +1,23 @@
+-- What the steps of a root over whole numbers promise one another.
+--   IsCoefficient n t   the small x with t x = n; or that t does not divide n; or that the quotient is not small
+--   IsSearch M s        the root of M from the fourth power up, with s there, or that there is none
+use mathlib.Core.Path.{_≡_}
+use mathlib.Core.List.{List}
+use lib.IntN.{ℤ, _*ℤ_}
+use Rattle.whole.specs.Coefficients.{Divides}
+use Rattle.whole.specs.Number.{wholes}
+use Rattle.root.specs.declared.Coefficient.{Coefficient}
+use Rattle.root.specs.declared.Coefficient.the-variants.{Whole, Fraction, TooLarge}
+use Rattle.root.specs.declared.Search.{Search}
+use Rattle.root.specs.declared.Search.the-variants.{Upper, None}
+use Rattle.root.specs.Search.{UpperRoot}
+use Rattle.root.specs.Promise.{quartic, Small}
+
+abbrev pub IsCoefficient : ℤ → ℤ → Coefficient → Type 0
+IsCoefficient n t (Whole x) = (t *ℤ x ≡ n) × Small x
+IsCoefficient n t Fraction = Divides wholes t n → ⊥
+IsCoefficient n t TooLarge = (x : ℤ) × (t *ℤ x ≡ n) × (Small x → ⊥)
+
+abbrev pub IsSearch : List ℤ → ℤ → Search → Type 0
+IsSearch M s (Upper q) = UpperRoot wholes Small M 4 s (quartic q)
+IsSearch M s None = (q : List ℤ) → UpperRoot wholes Small M 4 s q → ⊥
