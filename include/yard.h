@@ -109,7 +109,7 @@ int64_t yard_offset(const int64_t *p, size_t n, int64_t h, int64_t *out, size_t 
  * 12). */
 int64_t yard_build(int64_t x, int64_t y, const int64_t *w, size_t n, int64_t *out, size_t room);
 
-/* Every curve between two ends: the quintics of a pre-image w0, w1, w2 whose first leg is a, whose last leg is z and
+/* The curves between two ends: all quintics of whole pairs w0, w1, w2 whose first leg is a, whose last leg is z and
  * whose last point lies T from the first. Parts of a and z go from -20,000 to 20,000, those of T from -40,000 to
  * 40,000. out: six numbers a triple, w0, w1, w2, real before imaginary, in ascending order of w2 and then of w1; of
  * a triple and its negative, which are one curve, the one whose w0 has its first non-zero part positive. Returns

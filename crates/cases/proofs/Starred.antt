@@ -15,7 +15,7 @@ use Rattle.curve.specs.Curves.{legPolynomial, normPolynomial}
 use Rattle.measure.proofs.Counts.{count-apart, count-flat}
 use Rattle.offset.specs.Promise.{pointNumbers}
 use Rattle.join.specs.Promise.{numbers}
-use Rattle.join.proofs.Examples as join
+use Rattle.cases.proofs.Joins as join
 use Rattle.cases.specs.Rows.{RowHolds, All}
 use Rattle.cases.specs.Table.{neg, point, case-1, case-2, case-3, case-4, case-5, case-6, case-7, case-8, case-9, case-2-offset, table}
 use Rattle.cases.proofs.Certificates.{lead-at, square-by, preimage-by}

@@ -6,6 +6,7 @@
 --   w, q                    the polynomials of a verdict, from the constant upward
 --   pre, ph                 the verdicts, with κ, w, c and q, and with c and q
 --   triple                  w0, w1 and w2
+--   bend, bend-pre          case 2's cubic, and its verdict: κ = 1, c = 1, w = −1 + (1 − i) t, q = 1 − 2 t + 2 t²
 --   case-1 .. case-9        the rows
 --   given                   numbers one after the other, as those of the points 0, 1, ..
 --   case-2-offset           beside them, not starred: the offset of a cubic, worked by hand
@@ -58,11 +59,15 @@ case-1 = curve-is (quintic (point 0 0) (point 1 0) (point 2 0) (point 3 0) (poin
     (pre (point 1 0) (w (point 1 0) (point 0 0) (point 0 0)) (pos 1) (q (pos 1) (pos 0) (pos 0) (pos 0) (pos 0)))
     (offset-is (pos 2) (λ k. pos 252) (λ k. pos (140 * k)) (λ k. neg 504) ∷ [])
 
+abbrev pub bend : Curve
+bend = cubic (point 0 0) (point 1 0) (point 1 1) (point 0 1)
+
+abbrev pub bend-pre : Verdict
+bend-pre = pre (point 1 0) (w (pair (neg 1) (pos 0)) (pair (pos 1) (neg 1)) (point 0 0)) (pos 1) (q (pos 1) (neg 2) (pos 2) (pos 0) (pos 0))
+
 -- c = 1, w = −1 + (1 − i) t, q = 1 − 2 t + 2 t², A/B = 4/2
 abbrev pub case-2 : Row
-case-2 = curve-is (cubic (point 0 0) (point 1 0) (point 1 1) (point 0 1))
-    (pre (point 1 0) (w (pair (neg 1) (pos 0)) (pair (pos 1) (neg 1)) (point 0 0)) (pos 1) (q (pos 1) (neg 2) (pos 2) (pos 0) (pos 0)))
-    (length-is (pos 1) (pos 4) (pos 2) ∷ [])
+case-2 = curve-is bend bend-pre (length-is (pos 1) (pos 4) (pos 2) ∷ [])
 
 -- N = 1 − 4 t + 12 t² − 16 t³ + 8 t⁴, no
 abbrev pub case-3 : Row
@@ -103,8 +108,7 @@ given ns k = getD ns k (pos 0)
 
 -- case 2 at h = 1: W = 1 − 2 t + 2 t², X = 5 t − 11 t² + 12 t³ − 6 t⁴, Y = −1 + 2 t + 3 t² − 8 t³ + 10 t⁴ − 4 t⁵, at degree 5 times 10
 abbrev pub case-2-offset : Row
-case-2-offset = curve-is (cubic (point 0 0) (point 1 0) (point 1 1) (point 0 1))
-    (pre (point 1 0) (w (pair (neg 1) (pos 0)) (pair (pos 1) (neg 1)) (point 0 0)) (pos 1) (q (pos 1) (neg 2) (pos 2) (pos 0) (pos 0)))
+case-2-offset = curve-is bend bend-pre
     (offset-is (pos 1) (given (pos 10 ∷ pos 6 ∷ pos 4 ∷ pos 4 ∷ pos 6 ∷ pos 10 ∷ [])) (given (pos 0 ∷ pos 10 ∷ pos 9 ∷ pos 9 ∷ pos 10 ∷ pos 0 ∷ []))
     (given (neg 10 ∷ neg 6 ∷ pos 1 ∷ pos 3 ∷ pos 12 ∷ pos 20 ∷ [])) ∷ [])
 

@@ -8,5 +8,4 @@ pub mod Moved
 pub mod Norms
 pub mod Sizes
 pub mod Derivative
-pub mod Examples
 pub mod Algebra

@@ -1,8 +1,9 @@
--- The joins as curves: the list holds each quintic from a to z over T whose leg polynomial is the square of a quadratic, once.
+-- The joins as curves: the list holds each quintic from a to z over T whose leg polynomial is the square of a quadratic with whole Bernstein
+-- coefficients, once.
 --   squares-legs        five legs are those of the square of w exactly when three times each is what w makes
 --   legs-decide         two kept triples with the same legs are equal
 --   some-leg-differs    so two different triples of the list differ in a leg
---   traced-once         legs from a to z over T whose leg polynomial is a square are those of one triple of the list, and of no other
+--   traced-once         legs from a to z over T whose leg polynomial is such a square are those of one triple of the list, and of no other
 --   each-traces         every triple of the list has such legs
 use mathlib.Core.Path.{_≡_, refl, sym, ap, ap₂, _∙_}
 use mathlib.Core.List.{List, [], _∷_, map}

@@ -6,4 +6,3 @@ pub mod Sizes
 pub mod Writing
 pub mod Once
 pub mod Curves
-pub mod Examples

@@ -1,4 +1,4 @@
-// Every curve between two ends: the quintics from one leg to another over a travel, as a list in a lent area.
+// The curves between two ends: all quintics of whole pairs w0, w1, w2 from one leg to another over a travel, as a list in a lent area.
 ghost use mathlib.Core.Path.{_≡_};
 ghost use mathlib.Core.List.{[], _∷_, _++_};
 ghost use Prim.Native.Nat.{_+_, _≤_};

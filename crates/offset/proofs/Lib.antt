@@ -5,4 +5,3 @@ pub mod Paths
 pub mod Answers
 pub mod Geometry
 pub mod Once
-pub mod Examples

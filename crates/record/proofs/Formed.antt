@@ -19,6 +19,7 @@ use Rattle.pair.specs.declared.Pair.{Pair}
 use Rattle.curve.specs.declared.Curve.{Curve}
 use Rattle.curve.specs.declared.Curve.the-variants as curves
 use Rattle.curve.specs.Curves.{pointsOf, InRange}
+use Rattle.curve.specs.Sizes.{coordinateReach}
 use Rattle.record.specs.Numbers.{wordAt, signedOf, coordinates, paired, bits, wordBytes, encoded}
 use Rattle.record.specs.declared.kinds.Kind.{Kind}
 use Rattle.record.specs.declared.kinds.Row.{Row}
@@ -57,8 +58,8 @@ numbers-back : (xs : List ℤ) → allWithin xs ≡ true → coordinates (length
 unfolding coordinates allWithin
 numbers-back [] a = refl
 numbers-back (x ∷ xs) a =
-    let m = both-true (leb (natAbs x) 20000) (allWithin xs) a in
-    let w : Within 20000 x = record { size = leb-true (natAbs x) 20000 (m .0) } in
+    let m = both-true (leb (natAbs x) coordinateReach) (allWithin xs) a in
+    let w : Within coordinateReach x = record { size = leb-true (natAbs x) coordinateReach (m .0) } in
     let e : signedOf (wordAt (wordBytes (bits x) ++ encoded xs) 0) ≡ x = ap signedOf (word-back (bits x) (encoded xs) (bits-small x w)) ∙ signed-bits x w in
     let r : coordinates (length xs) (wordBytes (bits x) ++ encoded xs) 4 ≡ xs = shifted (length xs) (wordBytes (bits x)) (encoded xs) ∙ numbers-back xs (m .1) in
     λ i. e i ∷ r i
@@ -126,14 +127,14 @@ unfolding allWithin
 range-paired [] a = tt
 range-paired (x ∷ []) a = tt
 range-paired (x ∷ y ∷ xs) a =
-    let m = both-true (leb (natAbs x) 20000) (allWithin (y ∷ xs)) a in
-    let n = both-true (leb (natAbs y) 20000) (allWithin xs) (m .1) in
-    (record { re = record { size = leb-true (natAbs x) 20000 (m .0) }; im = record { size = leb-true (natAbs y) 20000 (n .0) } }, range-paired xs (n .1))
+    let m = both-true (leb (natAbs x) coordinateReach) (allWithin (y ∷ xs)) a in
+    let n = both-true (leb (natAbs y) coordinateReach) (allWithin xs) (m .1) in
+    (record { re = record { size = leb-true (natAbs x) coordinateReach (m .0) }; im = record { size = leb-true (natAbs y) coordinateReach (n .0) } }, range-paired xs (n .1))
 
 from-range : (ps : List Pair) → InRange ps → allWithin (numbersOf ps) ≡ true
 unfolding allWithin
 from-range [] h = refl
-from-range (p ∷ ps) h = rw (le-leb (natAbs (p .re)) 20000 (h .0 .re .size), le-leb (natAbs (p .im)) 20000 (h .0 .im .size)) (from-range ps (h .1))
+from-range (p ∷ ps) h = rw (le-leb (natAbs (p .re)) coordinateReach (h .0 .re .size), le-leb (natAbs (p .im)) coordinateReach (h .0 .im .size)) (from-range ps (h .1))
 
 pub range-is : (ps : List Pair) → (allWithin (numbersOf ps) ≡ true) ↔ InRange ps
 range-is ps = (λ a. subst InRange (paired-numbers ps) (range-paired (numbersOf ps) a), from-range ps)

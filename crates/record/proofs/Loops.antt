@@ -16,6 +16,7 @@ use lib.Seq.{drop-cons}
 use borrow.Author.Tests.{eq-eqb, ne-eqb, leb-true}
 use Rattle.whole.specs.Number.{Within}
 use Rattle.refusal.specs.Answers.{if_then_else_}
+use Rattle.curve.specs.Sizes.{coordinateReach}
 use Rattle.record.specs.Numbers.{wordAt, signedOf, coordinates}
 use Rattle.record.specs.Records.{erased, erasedBytes, allWithin}
 use Rattle.refusal.proofs.Answers.{both-true}
@@ -42,13 +43,13 @@ within-none s at zero l = refl
 within-none s at (suc m) l = absurd (omega arith)
 
 pub within-fail :
-    (s : List ℕ) (at left : ℕ) → 0 < left → leb (natAbs (signedOf (wordAt s at))) 20000 ≡ false → false ≡ allWithin (coordinates left s at)
+    (s : List ℕ) (at left : ℕ) → 0 < left → leb (natAbs (signedOf (wordAt s at))) coordinateReach ≡ false → false ≡ allWithin (coordinates left s at)
 unfolding coordinates allWithin
 within-fail s at zero l e = absurd (omega arith)
 within-fail s at (suc m) l e = rw e
 
 pub within-pass :
-    (s : List ℕ) (at left : ℕ) → 0 < left → leb (natAbs (signedOf (wordAt s at))) 20000 ≡ true →
+    (s : List ℕ) (at left : ℕ) → 0 < left → leb (natAbs (signedOf (wordAt s at))) coordinateReach ≡ true →
     allWithin (coordinates (left - 1) s (at + 4)) ≡ allWithin (coordinates left s at)
 unfolding coordinates allWithin
 within-pass s at zero l e = absurd (omega arith)
@@ -60,17 +61,17 @@ pub numbers-none : (xs : List ℤ) (i : ℕ) → length xs ≤ i → true ≡ al
 unfolding allWithin
 numbers-none xs i h = rw (drop-of-length-le xs {i = i} h)
 
-pub numbers-fail : (xs : List ℤ) (i : ℕ) → i < length xs → leb (natAbs (getD xs i (pos 0))) 20000 ≡ false → false ≡ allWithin (drop i xs)
+pub numbers-fail : (xs : List ℤ) (i : ℕ) → i < length xs → leb (natAbs (getD xs i (pos 0))) coordinateReach ≡ false → false ≡ allWithin (drop i xs)
 unfolding allWithin
 numbers-fail xs i h e = rw (drop-cons xs i (pos 0) h, e)
 
 pub numbers-pass :
-    (xs : List ℤ) (i : ℕ) → i < length xs → leb (natAbs (getD xs i (pos 0))) 20000 ≡ true → allWithin (drop (i + 1) xs) ≡ allWithin (drop i xs)
+    (xs : List ℤ) (i : ℕ) → i < length xs → leb (natAbs (getD xs i (pos 0))) coordinateReach ≡ true → allWithin (drop (i + 1) xs) ≡ allWithin (drop i xs)
 unfolding allWithin
 numbers-pass xs i h e = rw (drop-cons xs i (pos 0) h, e, add-one)
 
-pub numbers-at : (xs : List ℤ) (i : ℕ) → allWithin xs ≡ true → i < length xs → Within 20000 (getD xs i (pos 0))
+pub numbers-at : (xs : List ℤ) (i : ℕ) → allWithin xs ≡ true → i < length xs → Within coordinateReach (getD xs i (pos 0))
 unfolding allWithin
 numbers-at [] i a h = absurd (not-suc-le-zero h)
-numbers-at (x ∷ xs) zero a h = record { size = leb-true (natAbs x) 20000 (both-true (leb (natAbs x) 20000) (allWithin xs) a .0) }
-numbers-at (x ∷ xs) (suc i) a h = numbers-at xs i (both-true (leb (natAbs x) 20000) (allWithin xs) a .1) (le-of-suc-le-suc h)
+numbers-at (x ∷ xs) zero a h = record { size = leb-true (natAbs x) coordinateReach (both-true (leb (natAbs x) coordinateReach) (allWithin xs) a .0) }
+numbers-at (x ∷ xs) (suc i) a h = numbers-at xs i (both-true (leb (natAbs x) coordinateReach) (allWithin xs) a .1) (le-of-suc-le-suc h)

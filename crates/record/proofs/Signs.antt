@@ -21,6 +21,7 @@ use borrow.Author.Tests.{lt-ltb, le-ltb, le-leb, lt-leb, ltb-true, ltb-false}
 use Rattle.whole.specs.Number.{Within}
 use Rattle.pair.specs.declared.Pair.{Pair}
 use Rattle.refusal.specs.Answers.{if_then_else_}
+use Rattle.curve.specs.Sizes.{coordinateReach}
 use Rattle.record.specs.Numbers.{signedOf, bits}
 use Rattle.refusal.proofs.Answers.{by-order}
 
@@ -39,11 +40,11 @@ unfolding signedOf if_then_else_
 abs-high w l = rw (le-ltb w 2147483648 l) (abs-neg (4294967296 - w))
 
 module _ (w : ℕ) (small : w < 4294967296) where
-  pub word-within : (w + 20000) % 4294967296 ≤ 40000 → leb (natAbs (signedOf w)) 20000 ≡ true
-  word-within h = le-leb (natAbs (signedOf w)) 20000 (by-order 2147483648 w (λ l. rw (abs-high w l) (omega arith)) (λ l. rw (abs-low w l) (omega arith)))
+  pub word-within : (w + coordinateReach) % 4294967296 ≤ 40000 → leb (natAbs (signedOf w)) coordinateReach ≡ true
+  word-within h = le-leb (natAbs (signedOf w)) coordinateReach (by-order 2147483648 w (λ l. rw (abs-high w l) (omega arith)) (λ l. rw (abs-low w l) (omega arith)))
 
-  pub word-outside : 40000 < (w + 20000) % 4294967296 → leb (natAbs (signedOf w)) 20000 ≡ false
-  word-outside h = lt-leb (natAbs (signedOf w)) 20000 (by-order 2147483648 w (λ l. rw (abs-high w l) (omega arith)) (λ l. rw (abs-low w l) (omega arith)))
+  pub word-outside : 40000 < (w + coordinateReach) % 4294967296 → leb (natAbs (signedOf w)) coordinateReach ≡ false
+  word-outside h = lt-leb (natAbs (signedOf w)) coordinateReach (by-order 2147483648 w (λ l. rw (abs-high w l) (omega arith)) (λ l. rw (abs-low w l) (omega arith)))
 
 -- ---- the machine's word to a signed number
 
@@ -81,36 +82,36 @@ stored p f g e = kept (p .re) f (kept (p .im) g e)
 
 -- ---- a signed number in range to its word
 
-same : (x : ℤ) → Within 20000 x → toZ w64 (ofZ w64 x) ≡ x
+same : (x : ℤ) → Within coordinateReach x → toZ w64 (ofZ w64 x) ≡ x
 same (pos n) h = toZ-ofZ w64 (pos n) (record { sfits = omega arith })
 same (negsuc n) h = toZ-ofZ w64 (negsuc n) (record { sfits = omega arith })
 
-pub bits-small : (x : ℤ) → Within 20000 x → bits x < 4294967296
+pub bits-small : (x : ℤ) → Within coordinateReach x → bits x < 4294967296
 bits-small (pos n) h = omega arith
 bits-small (negsuc n) h = omega arith
 
-pub signed-bits : (x : ℤ) → Within 20000 x → signedOf (bits x) ≡ x
+pub signed-bits : (x : ℤ) → Within coordinateReach x → signedOf (bits x) ≡ x
 unfolding signedOf if_then_else_
 signed-bits (pos n) h = rw (lt-ltb n 2147483648 (omega arith))
 signed-bits (negsuc n) h =
     let e : 4294967296 - (4294967296 - suc n) ≡ suc n = omega arith in
     rw (le-ltb (4294967296 - suc n) 2147483648 (omega arith), e)
 
-pub below-zero : (x : ℤ) → Within 20000 x → ltZ (toZ w64 (ofZ w64 x)) (pos 0) ≡ true → pos 4294967296 +ℤ toZ w64 (ofZ w64 x) ≡ pos (bits x)
+pub below-zero : (x : ℤ) → Within coordinateReach x → ltZ (toZ w64 (ofZ w64 x)) (pos 0) ≡ true → pos 4294967296 +ℤ toZ w64 (ofZ w64 x) ≡ pos (bits x)
 below-zero (pos n) h e =
     let f : ltZ (pos n) (pos 0) ≡ true = subst (λ (z : ℤ). ltZ z (pos 0) ≡ true) (same (pos n) h) e in
     absurd (omega (arith, ltb-true n 0 f))
 below-zero (negsuc n) h e =
     ap (λ (z : ℤ). pos 4294967296 +ℤ z) (same (negsuc n) h) ∙ rw (le-ltb 4294967296 (suc n) (omega arith))
 
-pub from-zero : (x : ℤ) → Within 20000 x → ltZ (toZ w64 (ofZ w64 x)) (pos 0) ≡ false → toZ w64 (ofZ w64 x) ≡ pos (bits x)
+pub from-zero : (x : ℤ) → Within coordinateReach x → ltZ (toZ w64 (ofZ w64 x)) (pos 0) ≡ false → toZ w64 (ofZ w64 x) ≡ pos (bits x)
 from-zero (pos n) h e = same (pos n) h
 from-zero (negsuc n) h e =
     let f : ltZ (negsuc n) (pos 0) ≡ false = subst (λ (z : ℤ). ltZ z (pos 0) ≡ false) (same (negsuc n) h) e in
     absurd (false≢true (sym f))
 
 -- a machine number z that is the word of x
-module _ (x : ℤ) (h : Within 20000 x) (z : ℤ) (e : z ≡ pos (bits x)) where
+module _ (x : ℤ) (h : Within coordinateReach x) (z : ℤ) (e : z ≡ pos (bits x)) where
   pub word-room : SFits w64 z
   word-room = subst (SFits w64) (sym e) (let b = bits-small x h in record { sfits = omega arith })
 
@@ -122,28 +123,28 @@ module _ (x : ℤ) (h : Within 20000 x) (z : ℤ) (e : z ≡ pos (bits x)) where
 
 -- ---- the ends of the range
 
-below : (x : ℤ) → ltZ x (negsuc 19999) ≡ true → 20000 < natAbs x
+below : (x : ℤ) → ltZ x (negsuc 19999) ≡ true → coordinateReach < natAbs x
 below (pos n) e = absurd (false≢true e)
 below (negsuc n) e = omega (arith, ltb-true 19999 n e)
 
-above : (x : ℤ) → ltZ (pos 20000) x ≡ true → 20000 < natAbs x
-above (pos n) e = ltb-true 20000 n e
+above : (x : ℤ) → ltZ (pos coordinateReach) x ≡ true → coordinateReach < natAbs x
+above (pos n) e = ltb-true coordinateReach n e
 above (negsuc n) e = absurd (false≢true e)
 
-within : (x : ℤ) → ltZ x (negsuc 19999) ≡ false → ltZ (pos 20000) x ≡ false → natAbs x ≤ 20000
-within (pos n) e f = ltb-false 20000 n f
+within : (x : ℤ) → ltZ x (negsuc 19999) ≡ false → ltZ (pos coordinateReach) x ≡ false → natAbs x ≤ coordinateReach
+within (pos n) e f = ltb-false coordinateReach n f
 within (negsuc n) e f = omega (arith, ltb-false 19999 n e)
 
 module _ (x : ℤ) (f : SFits w64 x) where
   settle : (P : ℤ → Type 0) → P (toZ w64 (ofZ w64 x)) → P x
   settle P h = subst P (toZ-ofZ w64 x f) h
 
-  pub below-least : ltZ (toZ w64 (ofZ w64 x)) (negsuc 19999) ≡ true → false ≡ leb (natAbs x) 20000
-  below-least e = sym (lt-leb (natAbs x) 20000 (below x (settle (λ (z : ℤ). ltZ z (negsuc 19999) ≡ true) e)))
+  pub below-least : ltZ (toZ w64 (ofZ w64 x)) (negsuc 19999) ≡ true → false ≡ leb (natAbs x) coordinateReach
+  below-least e = sym (lt-leb (natAbs x) coordinateReach (below x (settle (λ (z : ℤ). ltZ z (negsuc 19999) ≡ true) e)))
 
-  pub above-most : ltZ (pos 20000) (toZ w64 (ofZ w64 x)) ≡ true → false ≡ leb (natAbs x) 20000
-  above-most e = sym (lt-leb (natAbs x) 20000 (above x (settle (λ (z : ℤ). ltZ (pos 20000) z ≡ true) e)))
+  pub above-most : ltZ (pos coordinateReach) (toZ w64 (ofZ w64 x)) ≡ true → false ≡ leb (natAbs x) coordinateReach
+  above-most e = sym (lt-leb (natAbs x) coordinateReach (above x (settle (λ (z : ℤ). ltZ (pos coordinateReach) z ≡ true) e)))
 
-  pub between : ltZ (toZ w64 (ofZ w64 x)) (negsuc 19999) ≡ false → ltZ (pos 20000) (toZ w64 (ofZ w64 x)) ≡ false → true ≡ leb (natAbs x) 20000
+  pub between : ltZ (toZ w64 (ofZ w64 x)) (negsuc 19999) ≡ false → ltZ (pos coordinateReach) (toZ w64 (ofZ w64 x)) ≡ false → true ≡ leb (natAbs x) coordinateReach
   between e g =
-      sym (le-leb (natAbs x) 20000 (within x (settle (λ (z : ℤ). ltZ z (negsuc 19999) ≡ false) e) (settle (λ (z : ℤ). ltZ (pos 20000) z ≡ false) g)))
+      sym (le-leb (natAbs x) coordinateReach (within x (settle (λ (z : ℤ). ltZ z (negsuc 19999) ≡ false) e) (settle (λ (z : ℤ). ltZ (pos coordinateReach) z ≡ false) g)))

@@ -14,6 +14,7 @@ use lib.ListN.{length, getD}
 use lib.IntN.{ℤ, natAbs}
 use Rattle.refusal.specs.declared.Refusal.the-variants as refusal
 use Rattle.refusal.specs.Answers.{if_then_else_}
+use Rattle.curve.specs.Sizes.{coordinateReach}
 use Rattle.record.specs.Numbers.{sizeOf, coordinates}
 use Rattle.record.specs.declared.kinds.Kind.{Kind}
 use Rattle.record.specs.declared.kinds.Named.{Named}
@@ -48,7 +49,7 @@ kindIn (k ∷ ks) rest = if named k rest then named-as.Kind k else kindIn ks res
 
 unfoldable pub allWithin : List ℤ → Bool
 allWithin [] = true
-allWithin (x ∷ xs) = leb (natAbs x) 20000 && allWithin xs
+allWithin (x ∷ xs) = leb (natAbs x) coordinateReach && allWithin xs
 
 unfoldable pub sizedStep : Kind → List ℕ → Step
 sizedStep k rest =

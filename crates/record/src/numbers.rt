@@ -3,6 +3,7 @@ ghost use mathlib.Core.Path.{_≡_};
 ghost use Prim.Native.Nat.{_+_, _≤_, _<_};
 ghost use lib.ListN.{length};
 ghost use Rattle.whole.specs.Number.{Within};
+ghost use Rattle.curve.specs.Sizes.{coordinateReach};
 ghost use Rattle.record.specs.Numbers.{halfAt, wordAt, signedOf, bits as bitsOf, wordBytes, written};
 
 fn wide(x: u8) -> u64
@@ -43,7 +44,7 @@ pub(crate) fn signed(w: u64) -> i64
 
 // The word of a number in range.
 pub(crate) fn bits(x: i64) -> u64
-    requires { ⌜ Within 20000 x ⌝ }
+    requires { ⌜ Within coordinateReach x ⌝ }
     ensures { λ r. ⌜ r ≡ bitsOf x ⌝ }
 {
     if x < 0 {

@@ -6,6 +6,7 @@ ghost use Prim.Native.Nat.{_+_, _-_, _*_};
 ghost use lib.Dec.{leb};
 ghost use lib.IntN.{natAbs};
 ghost use lib.ListN.{length, take};
+ghost use Rattle.curve.specs.Sizes.{coordinateReach};
 ghost use Rattle.record.specs.Numbers.{encoded, written};
 ghost use Rattle.curve.specs.Curves.{pointsOf};
 ghost use Rattle.record.specs.Kinds.{rowOf, kindOf, numbersOf, formed};
@@ -28,7 +29,7 @@ pub enum Put {
 
 // Whether a number is from -20,000 to 20,000.
 fn is_within(x: i64) -> bool
-    ensures { λ r. ⌜ r ≡ leb (natAbs x) 20000 ⌝ }
+    ensures { λ r. ⌜ r ≡ leb (natAbs x) coordinateReach ⌝ }
 {
     if x < -20000 {
         return false;

@@ -6,6 +6,7 @@ use native.Mathlib.Omega.{arith}
 use lib.Dec.{leb}
 use lib.IntN.{natAbs}
 use lib.ListN.{length}
+use Rattle.curve.specs.Sizes.{coordinateReach}
 use Rattle.record.specs.Numbers.{signedOf, coordinates}
 use Rattle.record.specs.Records.{allWithin}
 use Rattle.record.proofs.Signs.{word-within, word-outside}
@@ -32,7 +33,7 @@ returns : tie.Need-returns Inv-loop μ-loop
 returns c =
     let w = c .before .word-at .ensures in
     within-fail _ _ _ (c .before .before .loop-test .taken)
-    (ap (λ (n : ℕ). leb (natAbs (signedOf n)) 20000) (sym (w .0)) ∙ word-outside _ (w .1) (c .if1 .taken))
+    (ap (λ (n : ℕ). leb (natAbs (signedOf n)) coordinateReach) (sym (w .0)) ∙ word-outside _ (w .1) (c .if1 .taken))
     ∙ c .before .before .before .loop .inv .0
 
 add-at : tie.Need-add-at Inv-loop μ-loop
@@ -48,7 +49,7 @@ loop-again : tie.Need-loop-again Inv-loop μ-loop
 loop-again c =
     let w = c .before .word-at .ensures in (
       within-pass _ _ _ (c .before .before .loop-test .taken)
-          (ap (λ (n : ℕ). leb (natAbs (signedOf n)) 20000) (sym (w .0)) ∙ word-within _ (w .1) (c .if1 .left))
+          (ap (λ (n : ℕ). leb (natAbs (signedOf n)) coordinateReach) (sym (w .0)) ∙ word-within _ (w .1) (c .if1 .left))
           ∙ c .before .before .before .loop .inv .0,
       omega arith,
     )

@@ -8,6 +8,7 @@ use lib.IntN.{ℤ, pos, natAbs}
 use lib.ListN.{length, drop, getD}
 use mir.Syntax.{w64}
 use mir.ValLaws.{toZ-ofZ}
+use Rattle.curve.specs.Sizes.{coordinateReach}
 use Rattle.record.specs.Records.{allWithin}
 use Rattle.record.proofs.Loops.{numbers-none, numbers-fail, numbers-pass}
 use Rattle.record.proofs.writes.numbers_within.Statement.{statement}
@@ -29,10 +30,10 @@ shared-slice-copy-out-is-within : tie.Need-shared-slice-copy-out-is-within Inv-l
 shared-slice-copy-out-is-within c = search needs
 
 -- what the call says of the element itself
-element : (c : tie.After-is-within Inv-loop μ-loop) → leb (natAbs (getD (c .before .before .before .before .args .xs .now) (c .before .before .before .loop .k) (pos 0))) 20000 ≡ c .is-within .result
+element : (c : tie.After-is-within Inv-loop μ-loop) → leb (natAbs (getD (c .before .before .before .before .args .xs .now) (c .before .before .before .loop .k) (pos 0))) coordinateReach ≡ c .is-within .result
 element c =
     let x = getD (c .before .before .before .before .args .xs .now) (c .before .before .before .loop .k) (pos 0) in
-    ap (λ (z : ℤ). leb (natAbs z) 20000) (sym (toZ-ofZ w64 x (record { sfits = c .before .is-within-arg .given })))
+    ap (λ (z : ℤ). leb (natAbs z) coordinateReach) (sym (toZ-ofZ w64 x (record { sfits = c .before .is-within-arg .given })))
     ∙ sym (c .is-within .ensures)
 
 is-within-requires : tie.Need-is-within-requires Inv-loop μ-loop

@@ -9,6 +9,7 @@ use mir.Syntax.{w64}
 use mir.Val.{toZ, ofZ}
 use mir.ValLaws.{toZ-ofZ}
 use Rattle.whole.specs.Number.{Within}
+use Rattle.curve.specs.Sizes.{coordinateReach}
 use Rattle.record.specs.Numbers.{bits as bitsOf, wordBytes, encoded}
 use Rattle.record.specs.Numbers.{written}
 use Rattle.record.proofs.Loops.{numbers-at}
@@ -39,11 +40,11 @@ module _ (c : tie.After-bits-arg Inv-loop μ-loop) where
   x-kept : toZ w64 (ofZ w64 x) ≡ x
   x-kept = toZ-ofZ w64 x (record { sfits = c .bits-arg .given })
 
-  x-within : Within 20000 x
+  x-within : Within coordinateReach x
   x-within = numbers-at (c .before .before .before .before .before .args .xs .now) (c .before .before .before .loop .i) (c .before .before .before .before .before .pre .1) (c .before .before .loop-test .taken)
 
 bits-requires : tie.Need-bits-requires Inv-loop μ-loop
-bits-requires c κs = subst (Within 20000) (sym (x-kept c)) (x-within c)
+bits-requires c κs = subst (Within coordinateReach) (sym (x-kept c)) (x-within c)
 
 put-word-requires : tie.Need-put-word-requires Inv-loop μ-loop
 put-word-requires c κs = let turn = c .before .before .before .before in omega (arith, turn .before .before .pre .0)
