@@ -61,12 +61,44 @@ hold_samples() {
     done
 }
 
+# The bench report: each command of the expected text, its lines, those of the error output and its status. Then 1,001 sheets, of which the last is
+# one too many.
+hold_boxes() {
+    sed -n 's/^\$ .\/yard box *//p' examples/box.txt | while read -r files; do
+        echo "\$ ./yard box${files:+ $files}"
+        status=0
+        box $files 2>"$room/said" || status=$?
+        sed 's/^/error: /' "$room/said"
+        echo "status $status"
+    done >"$room/answer"
+    diff examples/box.txt "$room/answer"
+    status=0
+    box $(yes samples/two_ended.sheet | head -n 1001) >"$room/answer" || status=$?
+    [ "$status" -eq 1 ] && [ "$(tail -n 1 "$room/answer")" = "refused 20 at 1001" ] && grep -q '^sheets 1000$' "$room/answer" &&
+        grep -q '^sum 31000.00$' "$room/answer" || { echo "yard: a box of 1,001 sheets: status $status" >&2 && exit 1; }
+}
+
 # A sheet that comes in parts, by a byte, by a few and the rest, is the same sheet.
 hold_parts() {
     for sheet in mission too_long; do
         { head -c 1 "samples/$sheet.sheet" && sleep 0.2 && tail -c +2 "samples/$sheet.sheet" | head -c 50 && sleep 0.2 && tail -c +52 "samples/$sheet.sheet"; } |
             report - >"$room/answer" || [ $? -eq 1 ]
         diff "samples/$sheet.report" "$room/answer"
+    done
+}
+
+# Boxes made by chance: the text and the status are those of the second program.
+hold_boxes_by_chance() {
+    "$second" boxes "$room/boxes" 1
+    for folder in "$room"/boxes/*; do
+        set -- "$folder"/*.sheet
+        [ -e "$1" ] || set --
+        expected=0
+        "$second" box "$@" >"$room/expected" || expected=$?
+        status=0
+        box "$@" >"$room/answer" || status=$?
+        cmp "$room/expected" "$room/answer"
+        [ "$status" -eq "$expected" ] || { echo "yard: $folder: status $status, not $expected" >&2 && exit 1; }
     done
 }
 
@@ -85,6 +117,8 @@ all_tests() {
     hold_to_second_program
     gate
     hold_samples
+    hold_boxes
+    hold_boxes_by_chance
     hold_parts
     hold_questions
     prepare_library

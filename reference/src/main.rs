@@ -3,6 +3,8 @@
 //!
 //!     reference expect FILE               answer every call of a script, a line each
 //!     reference report FILE               the report of a sheet
+//!     reference box FILE...               the report of a box of sheets
+//!     reference boxes FOLDER SEED         boxes by chance, each as a folder of sheets
 //!     reference sheet FILE.txt OUT        make a sheet from a readable text
 //!     reference read FILE NUMBER          the curve of that number, and its record's bytes
 //!     reference append FILE OUT POINTS    the sheet with one more curve
@@ -24,6 +26,7 @@ mod report;
 mod runs;
 mod script;
 mod sheet;
+mod totals;
 mod verdict;
 
 use refusal::Refusal;
@@ -33,6 +36,8 @@ use std::process::ExitCode;
 const HELP: &str = "\
 usage: reference expect FILE               answer every call of a script, a line each
        reference report FILE               the report of a sheet
+       reference box FILE...               the report of a box of sheets
+       reference boxes FOLDER SEED         boxes by chance, each as a folder of sheets
        reference sheet FILE.txt OUT        make a sheet from a readable text
        reference read FILE NUMBER          the curve of that number, and its record's bytes
        reference append FILE OUT POINTS    the sheet with one more curve
@@ -53,10 +58,11 @@ A sheet text has lines `C3 POINTS`, `C5 POINTS`, `erased N`, `bytes 00 11 ff`, a
 Status 0 is an answer, 1 a sheet or call refused or a difference, 2 a mistake in the command line or in a text.
 ";
 
-/// What a command ends with: the text of an answer, the text of a refusal, or a mistake.
+/// What a command ends with: the text of an answer, the text of a refusal, a text beside files that could not be read, or a mistake.
 enum End {
     Answer(String),
     Refused(String),
+    Partly(String),
     Mistake(String),
 }
 
@@ -66,6 +72,7 @@ fn main() -> ExitCode {
     let (text, status) = match run(&words).unwrap_or_else(End::Mistake) {
         End::Answer(text) => (text, 0),
         End::Refused(text) => (text, 1),
+        End::Partly(text) => (text, 2),
         End::Mistake(why) => {
             eprintln!("reference: {why}");
             return ExitCode::from(2);
@@ -86,6 +93,12 @@ fn run(words: &[&str]) -> Result<End, String> {
             Ok(text) => End::Answer(text),
             Err(text) => End::Refused(text),
         }),
+        ["box", files @ ..] => Ok(box_report(files)),
+        ["boxes", folder, seed] => {
+            compare::boxes::make(folder.as_ref(), whole(seed)?)
+                .map_err(|why| format!("{folder}: {why}"))?;
+            Ok(End::Answer(String::new()))
+        }
         ["sheet", file, out] => {
             let bytes = in_file(file, script::sheet_bytes(&text_of(file)?))?;
             write(out, &bytes)
@@ -132,6 +145,24 @@ fn write(out: &str, bytes: &[u8]) -> Result<End, String> {
         std::fs::write(out, bytes).map_err(|why| why.to_string()),
     )?;
     Ok(End::Answer(String::new()))
+}
+
+/// A file that cannot be read is named on the error output, and is no sheet.
+fn box_report(files: &[&str]) -> End {
+    let (read, unread): (Vec<_>, Vec<_>) = files
+        .iter()
+        .map(|file| bytes_of(file).map(|bytes| (file.to_string(), bytes)))
+        .partition(Result::is_ok);
+    let sheets: Vec<(String, Vec<u8>)> = read.into_iter().flatten().collect();
+    let complaints: Vec<String> = unread.into_iter().filter_map(Result::err).collect();
+    for why in &complaints {
+        eprintln!("reference: {why}");
+    }
+    match totals::report(&sheets) {
+        (text, _) if !complaints.is_empty() => End::Partly(text),
+        (text, true) => End::Refused(text),
+        (text, false) => End::Answer(text),
+    }
 }
 
 fn refused(refusal: Refusal) -> End {

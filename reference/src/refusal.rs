@@ -1,5 +1,6 @@
-//! The refusal table: every refusal by its number, and its name.
+//! The refusal table: every refusal by its number.
 
+/// The names of those that the calls for C know, from number 1 on.
 pub const NAMES: [&str; 14] = [
     "TOO LONG",
     "CUT",
@@ -33,6 +34,7 @@ pub enum Refusal {
     Room = 12,
     Thirds = 13,
     DeadEnd = 14,
+    Full = 20,
 }
 
 impl Refusal {

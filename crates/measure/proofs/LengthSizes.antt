@@ -2,7 +2,7 @@
 --   root-small           q's coefficients are small enough for `length_by`
 --   content-small        c has at most 15 digits
 --   length-nonneg        A is not negative.      denominator-nonneg   nor is B
---   longest              2 (n B · 40,000)²
+--   longest              2 (n B · 40,000)².      longest-most   at most 11,520,000,000,000
 --   length-size          c A² is at most that: the length √c A / B is at most n √2 · 40,000,
 --   length-small         and A is at most 3,394,113
 use mathlib.Core.Path.{_≡_, ap, _∙_}
@@ -59,6 +59,10 @@ denominator-nonneg (Quintic c) = omega linear
 abbrev pub longest : Curve → ℕ
 longest curve = let m = natAbs (degreeOf curve *ℤ lengthB curve) * legReach in 2 * (m * m)
 
+pub longest-most : (curve : Curve) → longest curve ≤ 11520000000000
+longest-most (Cubic c) = omega arith
+longest-most (Quintic c) = omega arith
+
 module _ (p : Preimage) where
   abbrev q : Quartic
   q = p .square .q
@@ -100,8 +104,4 @@ module _ (p : Preimage) where
   pub length-small : (curve : Curve) → InRange (pointsOf curve) → PreimageOf (legPolynomial (pointsOf curve)) p → natAbs (lengthA curve q) ≤ 3394113
   length-small curve r h =
       let a = natAbs (lengthA curve q) in
-      root-le a 3394113 (omega (arith, length-size curve r h, most curve, mul-le-mul (positive-size (h .square-of .positive)) (le-refl (a * a))))
-    where
-      most : (curve : Curve) → longest curve ≤ 11520000000000
-      most (Cubic c) = omega arith
-      most (Quintic c) = omega arith
+      root-le a 3394113 (omega (arith, length-size curve r h, longest-most curve, mul-le-mul (positive-size (h .square-of .positive)) (le-refl (a * a))))

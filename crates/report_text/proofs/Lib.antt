@@ -1,5 +1,4 @@
--- Theorems: what sheets tell, the lines, the one answer, and how long a report is.
+-- Theorems: the lines, the one answer, and how long a report is.
 pub mod Lined
-pub mod OfSheet
 pub mod Once
 pub mod Short

@@ -10,10 +10,9 @@ use Rattle.curve.specs.declared.Curve.{Curve}
 use Rattle.curve.specs.Curves.{pointsOf}
 use Rattle.verdict.specs.Promise.{Recognised}
 use Rattle.verdict.proofs.Once.{recognised-once}
-use Rattle.sheet.specs.declared.Reading.the-variants as reading
 use Rattle.sheet.specs.Survey.{outcome}
 use Rattle.sheet.specs.Promise.{countOf}
-use Rattle.sheet.proofs.Once.{read-once}
+use Rattle.sheet.proofs.Once.{curve-read-once}
 use Rattle.text.specs.declared.TextAnswer.{TextAnswer}
 use Rattle.text.proofs.Held.{text-in-once}
 use Rattle.report_text.specs.Texts.{firstLine, lineText}
@@ -23,10 +22,7 @@ pub line-once : (s : List ℕ) (number : ℕ) (l l′ : List ℕ) → Line s num
 line-once s number l l′ h k = h .is ∙ ap₂ (lineText number) c v ∙ sym (k .is)
   where
     c : h .curve ≡ k .curve
-    c = same (read-once s number (reading.Points (h .curve)) (reading.Points (k .curve)) (h .reads) (k .reads))
-      where
-        same : {a b : Curve} → reading.Points a ≡ reading.Points b → a ≡ b
-        same e = cc
+    c = curve-read-once s number (h .curve) (k .curve) (h .reads) (k .reads)
 
     v : h .verdict ≡ k .verdict
     v =

@@ -27,13 +27,13 @@ use Rattle.sheet.specs.Survey.{Entry, outcome}
 use Rattle.sheet.specs.Promise.{countOf}
 use Rattle.sheet.proofs.Surveys.{sound-of}
 use Rattle.sheet.proofs.Faults.{curves-few, fault-near}
+use Rattle.sheet.proofs.Ahead.{read-in-range}
 use Rattle.text.specs.Texts.{signed, labelled, bytes, decimal}
 use Rattle.text.specs.declared.TextAnswer.the-variants as text
 use Rattle.text.proofs.Decimals.{decimal-few}
 use Rattle.text.proofs.Held.{asked-written, room-enough as enough}
 use Rattle.report_text.specs.Texts.{firstLine, kindText, verdictText}
 use Rattle.report_text.specs.Promise.{Line, Lines, ReportOf, Report, Reported}
-use Rattle.report_text.proofs.OfSheet.{read-in-range}
 
 -- ---- the numbers
 

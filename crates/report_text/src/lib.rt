@@ -2,8 +2,7 @@
 mod lines;
 
 use lines::put_lines;
-use refusal::Fault;
-use refusal::number;
+pub use lines::put_refused;
 use sheet::Checked;
 use text::Place;
 use text::TextAnswer;
@@ -15,8 +14,6 @@ ghost use Rattle.refusal.specs.Answers.{given, with-given};
 ghost use Rattle.sheet.specs.Survey.{outcome};
 ghost use Rattle.text.specs.declared.Place.the-variants.{At};
 ghost use Rattle.sheet.specs.Promise.{countOf};
-ghost use Rattle.text.specs.Steps.{Writes};
-ghost use Rattle.report_text.specs.Texts.{refusedLine};
 ghost use Rattle.report_text.specs.Promise.{Reported};
 ghost use Rattle.report_text.specs.Steps.{WritesReport};
 
@@ -28,16 +25,6 @@ fn put_sound(area: &mut [u8], place: Place, sheet: &[u8], count: usize) -> Place
     let end = put_labelled(area, place, b"sheet ", count as u64);
     let line = put(area, end, b"\n");
     put_lines(area, line, sheet, count)
-}
-
-// The report of a faulty sheet, of which nothing but the fault is said.
-fn put_refused(area: &mut [u8], place: Place, f: Fault) -> Place
-    ensures { λ r. ⌜ Writes (now (area .entry)) place (refusedLine f) (now (area .exit)) r ⌝ }
-{
-    let refusal = f.refusal;
-    let at = put_labelled(area, place, b"refused ", number(refusal) as u64);
-    let end = put_labelled(area, at, b" at ", f.place as u64);
-    put(area, end, b"\n")
 }
 
 // The report from the area's first byte on, as far as it fits.

@@ -1,4 +1,4 @@
-// The lines of a sheet's curves.
+// The lines of a report.
 ghost use mathlib.Core.Path.{_≡_};
 ghost use Rattle.refusal.specs.Answers.{given, with-given};
 ghost use Rattle.curve.specs.Curves.{pointsOf, InRange, legPolynomial};
@@ -7,7 +7,7 @@ ghost use Rattle.verdict.specs.Verdicts.{PreimageOf};
 ghost use Rattle.sheet.specs.Survey.{outcome};
 ghost use Rattle.sheet.specs.Promise.{countOf};
 ghost use Rattle.text.specs.Steps.{Writes};
-ghost use Rattle.report_text.specs.Texts.{kindText, verdictText, lineText};
+ghost use Rattle.report_text.specs.Texts.{kindText, verdictText, lineText, refusedLine};
 ghost use Rattle.report_text.specs.Steps.{WritesJudged, WritesLines};
 use curve::Curve;
 use measure::length_by;
@@ -15,8 +15,11 @@ use record::Held;
 use record::held_curve;
 use record::kind_of;
 use record::row_of;
+use refusal::Fault;
+use refusal::number;
 use text::Place;
 use text::put;
+use text::put_labelled;
 use text::put_number;
 use text::put_signed;
 use verdict::Preimage;
@@ -65,6 +68,16 @@ fn put_line(area: &mut [u8], place: Place, number: usize, curve: Curve) -> Place
     let verdict = put_kind(area, kind, curve);
     let end = put_verdict(area, verdict, curve);
     put(area, end, b"\n")
+}
+
+// The line of a faulty sheet, of which nothing but the fault is said.
+pub fn put_refused(area: &mut [u8], place: Place, f: Fault) -> Place
+    ensures { λ r. ⌜ Writes (now (area .entry)) place (refusedLine f) (now (area .exit)) r ⌝ }
+{
+    let refusal = f.refusal;
+    let at = put_labelled(area, place, b"refused ", number(refusal) as u64);
+    let line = put_labelled(area, at, b" at ", f.place as u64);
+    put(area, line, b"\n")
 }
 
 // The lines of a sound sheet's curves, of which there are `count`, in one pass from record to record.

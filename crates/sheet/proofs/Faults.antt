@@ -1,21 +1,25 @@
--- How many curves a sheet can have, and where its faults can be.
+-- How many curves a sheet can have, and where and what its faults can be.
 --   curves-few, check-few   a sheet has at most 113 curves, and `check` counts no more
 --   Placed, fault-placed    LEFTOVER stands at the first byte behind the records that is not FF, every other fault where the records end
 --   fault-near              a faulty sheet's fault stands within 4,096 bytes
+--   fault-number            and has one of the first six numbers of the table
 use mathlib.Core.Path.{_≡_, refl, sym, ap, _∙_, subst}
 use mathlib.Core.Bool.{true}
 use mathlib.Core.List.{List, [], _∷_, _++_}
-use Prim.Native.Nat.{ℕ, _+_, _*_, _≤_}
+use Prim.Native.Nat.{ℕ, _+_, _*_, _≤_, zero, suc}
 use native.Mathlib.Omega.{arith}
-use lib.ListN.{length, length-append}
+use lib.ListN.{length, length-append, drop}
 use Rattle.refusal.specs.declared.Refusal.the-variants as refusal
 use Rattle.refusal.specs.declared.Fault.{Fault}
 use Rattle.refusal.specs.Table.{numberOf}
 use Rattle.refusal.specs.Answers.{refused}
 use Rattle.refusal.proofs.Answers.{by-test, by-order, no-answer, given-once, refused-back}
+use Rattle.record.specs.declared.kinds.Kind.{Kind}
 use Rattle.record.specs.declared.kinds.Kind.the-variants.{Cubic}
-use Rattle.record.specs.Kinds.{rowOf}
-use Rattle.record.specs.Records.{longest, stepOf}
+use Rattle.record.specs.declared.kinds.Named.{Named}
+use Rattle.record.specs.declared.kinds.Named.the-variants as named-as
+use Rattle.record.specs.Kinds.{rowOf, kinds}
+use Rattle.record.specs.Records.{longest, erasedStep, kindIn, sizedStep, kindStep, stepOf}
 use Rattle.record.specs.declared.steps.Step.{Step}
 use Rattle.record.specs.declared.steps.Step.the-variants as step
 use Rattle.record.proofs.Shown.{fault-near as step-near, fault-placed as step-placed}
@@ -24,7 +28,7 @@ use Rattle.record.proofs.Table.{row-known}
 use Rattle.sheet.specs.declared.walks.Ending.{Ending}
 use Rattle.sheet.specs.declared.walks.Ending.the-variants.{Sound, Faulty}
 use Rattle.sheet.specs.declared.Checked.the-variants as checked
-use Rattle.sheet.specs.Survey.{Entry, Survey, survey, outcome, curves}
+use Rattle.sheet.specs.Survey.{Entry, Survey, survey, outcome, curves, found, surveyFrom}
 use Rattle.sheet.specs.Promise.{countOf, Checks}
 use Rattle.sheet.proofs.Surveys.{flat, Listed, Ended, survey-long, faulty-of, faulty-once, sheet-parts}
 
@@ -108,3 +112,50 @@ fault-placed s f h =
   where
     faulty : survey s .ending ≡ Faulty f
     faulty = faulty-of s (refused-back countOf (outcome s) (sym h))
+
+-- ---- which faults there are
+abbrev FirstSix : Step → Type 0
+FirstSix step.Ends = Unit {0}
+FirstSix (step.Fault r offset) = numberOf r ≤ 6
+FirstSix (step.Record k) = Unit {0}
+
+sized-number : (k : Kind) (rest : List ℕ) → FirstSix (sizedStep k rest)
+unfolding sizedStep
+sized-number k rest =
+    by-test FirstSix _ (λ _. omega arith) (λ _. by-test FirstSix _ (λ _. omega arith) (λ _. by-test FirstSix _ (λ _. omega arith) (λ _. tt)))
+
+kind-number : (rest : List ℕ) (n : Named) → FirstSix (kindStep rest n)
+kind-number rest (named-as.Kind k) = sized-number k rest
+kind-number rest named-as.Unknown = omega arith
+
+erased-number : (rest : List ℕ) → FirstSix (erasedStep rest)
+unfolding erasedStep
+erased-number rest = by-test FirstSix _ (λ _. omega arith) (λ _. tt)
+
+step-number : (rest : List ℕ) → FirstSix (stepOf rest)
+unfolding stepOf
+step-number rest =
+    by-test FirstSix _ (λ _. tt)
+    (λ _. by-test FirstSix _ (λ _. by-test FirstSix _ (λ _. tt) (λ _. omega arith))
+    (λ _. by-test FirstSix _ (λ _. erased-number rest) (λ _. by-test FirstSix _ (λ _. omega arith) (λ _. kind-number rest (kindIn kinds rest)))))
+
+abbrev EndsInSix : Ending → Type 0
+EndsInSix Sound = Unit {0}
+EndsInSix (Faulty f) = numberOf (f .refusal) ≤ 6
+
+found-number : (at : ℕ) (rest : List ℕ) (later : ℕ → Survey) (x : Step) → FirstSix x → ((n : ℕ) → EndsInSix (later n .ending)) → EndsInSix (found at rest later x .ending)
+found-number at rest later step.Ends h k = tt
+found-number at rest later (step.Fault r offset) h k = h
+found-number at rest later (step.Record kind) h k = k (rowOf kind .size)
+
+from-number : (most at : ℕ) (rest : List ℕ) → EndsInSix (surveyFrom most at rest .ending)
+unfolding surveyFrom
+from-number zero at rest = tt
+from-number (suc most) at rest = found-number at rest _ (stepOf rest) (step-number rest) (λ n. from-number most (at + n) (drop n rest))
+
+survey-number : (s : List ℕ) → EndsInSix (survey s .ending)
+unfolding survey
+survey-number s = by-test (λ (v : Survey). EndsInSix (v .ending)) _ (λ _. omega arith) (λ _. from-number (suc (length s)) 0 s)
+
+pub fault-number : (s : List ℕ) (f : Fault) → outcome s ≡ refused f → numberOf (f .refusal) ≤ 6
+fault-number s f e = subst EndsInSix (faulty-of s e) (survey-number s)

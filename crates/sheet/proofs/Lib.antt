@@ -1,4 +1,4 @@
--- What the proofs share, and, in Places, Once, Laws, Kept, Faults and Examples, what other crates may cite.
+-- What the proofs share, and, in Places, Once, Laws, Kept, Ahead, Faults and Examples, what other crates may cite.
 pub mod Surveys
 pub mod Standing
 pub mod Passed
@@ -9,5 +9,6 @@ pub mod Appended
 pub mod Once
 pub mod Laws
 pub mod Kept
+pub mod Ahead
 pub mod Faults
 pub mod Examples

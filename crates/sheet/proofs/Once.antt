@@ -1,4 +1,6 @@
 -- Each promise has one answer: what meets it twice is equal.
+--   checked-same       an answer of `check` is known by what it says
+--   curve-read-once    a number gives one curve
 --   check-once, read-once, locate-once, find-once, erase-once, append-once   the calls
 use mathlib.Core.Path.{_≡_, refl, sym, ap, _∙_}
 use mathlib.Core.List.{List}
@@ -20,7 +22,7 @@ use Rattle.sheet.specs.declared.Change.{Change}
 use Rattle.sheet.specs.declared.Change.the-variants as change
 use Rattle.sheet.specs.Promise.{answerOfChecked, answerOfReading, answerOfLocation, answerOfChange, erasing, appending, Checks, Reads, Locates, FindsIn, Changes, Erases, Appends}
 
-checked-same : (r q : Checked) → answerOfChecked r ≡ answerOfChecked q → r ≡ q
+pub checked-same : (r q : Checked) → answerOfChecked r ≡ answerOfChecked q → r ≡ q
 checked-same (checked.Curves m) (checked.Curves n) e = ap checked.Curves (given-once e)
 checked-same (checked.Curves m) (checked.Refused g) e = no-answer e
 checked-same (checked.Refused f) (checked.Curves n) e = no-answer (sym e)
@@ -55,6 +57,9 @@ module _ (s : List ℕ) where
 
   pub read-once : (number : ℕ) (r q : Reading) → Reads s number r → Reads s number q → r ≡ q
   read-once number r q h k = reading-same r q (h ∙ sym k)
+
+  pub curve-read-once : (number : ℕ) (c d : Curve) → Reads s number (reading.Points c) → Reads s number (reading.Points d) → c ≡ d
+  curve-read-once number c d h k = curve-once c d (given-once (h ∙ sym k))
 
   pub locate-once : (number : ℕ) (r q : Location) → Locates s number r → Locates s number q → r ≡ q
   locate-once number r q h k = location-same r q (h ∙ sym k)

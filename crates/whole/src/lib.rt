@@ -69,7 +69,7 @@ fn guess(n: u64) -> u64
 }
 
 // The floor of the root by Newton's steps, each from above.
-fn floor_root(n: u64) -> u64
+pub fn floor_root(n: u64) -> u64
     ensures { λ r. ⌜ FloorRoot n r ⌝ }
 {
     if n == 0 {

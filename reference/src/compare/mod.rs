@@ -1,5 +1,6 @@
 //! The comparison of this program with the compiled library, over pipes, on calls made by chance from a seed.
 
+pub mod boxes;
 mod call;
 mod calls;
 mod chance;

@@ -9,9 +9,12 @@ mod preimage;
 mod recognise;
 mod report;
 mod sheet;
+mod totals;
 
 use number::pair;
 use recognise::Verdict;
+pub use sheet::Fault;
+pub use totals::Totals;
 
 const LENGTH: i64 = 5;
 const RANGE: i64 = 6;

@@ -61,7 +61,7 @@ impl Text<'_> {
 }
 
 /// A of the length √c·A/B, of so many coordinates.
-fn length_above(square: &Square, count: usize) -> i64 {
+pub fn length_above(square: &Square, count: usize) -> i64 {
     let [q0, q1, q2, q3, q4] = square.q;
     if count == 8 {
         6 * q0 + 3 * q1 + 2 * q2

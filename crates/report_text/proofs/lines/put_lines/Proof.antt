@@ -12,9 +12,9 @@ use Rattle.sheet.specs.declared.Reading.the-variants as reading
 use Rattle.sheet.specs.Promise.{Reads}
 use Rattle.sheet.proofs.Passed.{rest-is}
 use Rattle.sheet.proofs.Places.{first-stands}
+use Rattle.sheet.proofs.Ahead.{read-in-range, Ahead, ahead-fits, ahead-near, ahead-held, passed}
 use Rattle.report_text.specs.Steps.{WritesLines}
 use Rattle.report_text.proofs.Lined.{lines-none, lines-more}
-use Rattle.report_text.proofs.OfSheet.{read-in-range, Ahead, ahead-fits, ahead-near, ahead-held, passed}
 use Rattle.report_text.proofs.lines.put_lines.Statement.{statement}
 use Rattle.report_text.proofs.lines.put_lines.Tie as tie
 

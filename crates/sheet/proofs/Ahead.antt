@@ -1,9 +1,9 @@
--- What a sheet's outcome tells of its curves.
+-- One pass over a sound sheet, from record to record: what a walk behind `check` knows.
 --   read-in-range     a curve that is read is in range
 --   Ahead             where the next record stands, while there is one.      ahead-fits, ahead-near   within the sheet, and its 4,096 bytes
 --   ahead-held        a curve's record is held there
 --   passed            what is held there is the curve of the next number, and where it ends the record behind it stands
-use mathlib.Core.Path.{_≡_, refl, sym, ap, _∙_, subst}
+use mathlib.Core.Path.{_≡_, refl, sym, ap, subst}
 use mathlib.Core.List.{List}
 use Prim.Native.Nat.{ℕ, suc, _+_, _≤_, _<_}
 use native.Mathlib.Omega.{arith}

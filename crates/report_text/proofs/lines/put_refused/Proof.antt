@@ -1,12 +1,12 @@
--- `put_refused` meets its contract: the refusal's number and its place.
+-- `lines::put_refused` meets its contract: the refusal's number and its place.
 use borrow.Author.Needs.{needs}
 use mathlib.Core.Path.{ap}
 use mathlib.Core.List.{_++_}
 use Prim.Native.Nat.{ℕ}
 use Rattle.text.specs.Texts.{bytes, decimal}
 use Rattle.text.proofs.Pieces.{_then_, writes-same}
-use Rattle.report_text.proofs.put_refused.Statement.{statement}
-use Rattle.report_text.proofs.put_refused.Tie as tie
+use Rattle.report_text.proofs.lines.put_refused.Statement.{statement}
+use Rattle.report_text.proofs.lines.put_refused.Tie as tie
 
 slice-aggregate-put-labelled : tie.Need-slice-aggregate-put-labelled
 slice-aggregate-put-labelled c = search needs
