@@ -1,5 +1,6 @@
 /* What the toolchain's own C code gives a program on x86-64, its arguments, the opening of a file and errno, for another processor:
  * the proved program of `./yard box` is compiled for that too, to be timed. */
+#define _POSIX_C_SOURCE 200809L
 #include <errno.h>
 #include <fcntl.h>
 #include <stddef.h>
