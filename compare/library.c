@@ -89,6 +89,8 @@ static int64_t answer(int64_t function, const int64_t x[6], struct area areas[4]
         return yard_append(s, len, p, n);
     case 12:
         return yard_report(s, len, text, text_room);
+    case 13:
+        return yard_root((uint64_t)x[0], out, room);
     }
     fail("no such function");
     return 0;

@@ -68,6 +68,7 @@ enum {
     YARD_TRIPLE_NUMBERS = 6,
     YARD_JOIN_NUMBERS = 24,
     YARD_FOUND_NUMBERS = 2,
+    YARD_ROOT_NUMBERS = 2,
     YARD_SHEET_BYTES = 4096, /* the longest sheet */
     YARD_REPORT_BYTES = 5321 /* no report is longer */
 };
@@ -143,6 +144,11 @@ int64_t yard_append(uint8_t *s, size_t len, const int64_t *p, size_t n);
  * is the line `refused NUMBER at PLACE`. Returns how many bytes the text has, without the zeros.
  * Refuses: ROOM (below that; 5,321 is always enough), and then the area is all zero. */
 int64_t yard_report(const uint8_t *s, size_t len, uint8_t *text, size_t room);
+
+/* The square root of any number: the greatest whole root r with r^2 <= n, and what is left over. out: r and the rest,
+ * with r^2 + rest = n and rest <= 2 r. A number is a square where the rest is 0. Returns 2.
+ * Refuses: ROOM (below 2). */
+int64_t yard_root(uint64_t n, int64_t *out, size_t room);
 
 #ifdef __cplusplus
 }

@@ -23,6 +23,7 @@ mod pair;
 mod poly;
 mod refusal;
 mod report;
+mod root;
 mod runs;
 mod script;
 mod sheet;
@@ -49,7 +50,7 @@ A script line is `LABEL: CALL`; empty lines and lines that begin with # are skip
        recognise CURVE                     length CURVE
        inflections CURVE                   offset CURVE by H in ROOM
        build P0 from W0 W1                 build P0 from W0 W1 W2
-       joins A Z over T in ROOM
+       joins A Z over T in ROOM            root N
        check RUNS                          erase RUNS
        read NUMBER of RUNS                 find NUMBER of RUNS
        append C3 POINTS to RUNS            append C5 POINTS to RUNS

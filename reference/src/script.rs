@@ -8,6 +8,7 @@ use crate::measure::{inflections, length};
 use crate::offset::offset;
 use crate::pair::{pair, Pair};
 use crate::refusal::Refusal;
+use crate::root::root;
 use crate::runs;
 use crate::sheet::record_bytes;
 use crate::verdict::{recognise, Ph, Pre, Verdict};
@@ -42,6 +43,7 @@ fn answer_line(line: &str) -> Result<String, String> {
         "offset" => offset_text(rest)?,
         "build" => build_text(rest)?,
         "joins" => joins_text(rest)?,
+        "root" => root_text(rest)?,
         _ => runs::answer(name, rest).ok_or(format!("unknown call `{name}`"))??,
     };
     Ok(format!("{label}: {answer}"))
@@ -118,6 +120,15 @@ fn joins_text(words: &[&str]) -> Result<String, String> {
         count => format!("{count} joins: {}", row(&numbers)),
     };
     Ok(format!("{list} and {} zeros", room - numbers.len()))
+}
+
+/// `N`, any number of 64 bits without a sign
+fn root_text(words: &[&str]) -> Result<String, String> {
+    let [n] = words else {
+        return Err("not `root N`".to_string());
+    };
+    let (root, rest) = root(number(n)?);
+    Ok(format!("root {root} rest {rest}"))
 }
 
 /// A refusal by a call that clears its lent area.
@@ -233,6 +244,13 @@ mod tests {
     }
 
     #[test]
+    fn calls_of_roots() {
+        assert_eq!(answer("root 10"), "x: root 3 rest 1");
+        let last = "x: root 4294967295 rest 8589934590";
+        assert_eq!(answer("root 18446744073709551615"), last);
+    }
+
+    #[test]
     fn comments_and_malformed_lines() {
         let script = "# a comment\n\na b: recognise (1,1) (1,1) (1,1) (1,1)\n";
         assert_eq!(expect(script).as_deref(), Ok("a b: still\n"));
@@ -245,6 +263,9 @@ mod tests {
             "x: offset (0,0) (0,0) (0,0) (0,0) by 1",
             "x: build (0,0) from (0,0)",
             "x: joins (0,0) (0,0) over (0,0)",
+            "x: root -1",
+            "x: root 18446744073709551616",
+            "x: root 1 2",
             "x: fly (0,0)",
             "x:",
         ] {

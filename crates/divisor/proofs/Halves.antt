@@ -1,6 +1,9 @@
 -- The candidate for a root of a pair z = x + iy. A root p + iq has p² + q² = n, where n² = x² + y², p² − q² = x and 2 p q = y.
 -- So p² and q² are the halves of n + x and n − x, and q is y over 2 p where p is not 0.
 --   candidate-kept          a candidate that is a root has the sign that is kept
+-- Of the whole root of a half:
+--   half-small, half-nonneg     it is small where the number is, and not negative
+--   half-found              it is k where the half is k²
 -- Of n:
 --   norm-root-small         it is small where z is
 --   plus-nonneg, minus-nonneg         n + x and n − x are not negative
@@ -18,6 +21,7 @@ use native.Mathlib.Omega.{arith}
 use lib.IntN.{ℤ, pos, negsuc, negℤ, natAbs, _+ℤ_, _-ℤ_, _*ℤ_, *ℤ-zero, zero-*ℤ}
 use lib.Signed.{quotZ, _≤ℤ_, _<ℤ_}
 use Rattle.whole.specs.Number.{Within, FirstPositive}
+use Rattle.whole.proofs.Squares.{root-below, root-is}
 use Rattle.whole.proofs.Wholes.{readℤ, read-pos, atomsℤ, ringℤ, *ℤ-cancel}
 use Rattle.whole.proofs.Linear.{linear, plus-parts, minus-parts, abs-parts}
 use Rattle.whole.proofs.Order.{positive-times, nonneg-is, compare}
@@ -26,7 +30,7 @@ use Rattle.pair.specs.declared.Pair.{Pair}
 use Rattle.pair.specs.Pairs.{pair, pairs, negative, times, norm, PartsWithin}
 use Rattle.pair.proofs.Parts.{pair-equal, im-equal}
 use Rattle.pair.proofs.Laws.{norm-times, square-size, root-le, root-equal, norm-size}
-use Rattle.divisor.specs.Steps.{Candidate}
+use Rattle.divisor.specs.Steps.{HalfRoot, Candidate}
 use Rattle.divisor.specs.Promise.{KeptRoot}
 
 -- the second part of a square is 0 where the first part of the root is
@@ -50,6 +54,16 @@ candidate-kept {z} {w} h e = record { squared = e; sign = λ n. by n (compare (w
         second : (w .im ≤ℤ pos 0) ⊎ (pos 0 <ℤ w .im) → pos 0 <ℤ w .im
         second (inl m) = let f = h .second (omega (linear, none)) in absurd (n (pair-equal re (omega linear)))
         second (inr p) = p
+
+-- ---- the whole root of a half
+pub half-small : {s r : ℤ} → Within (2 ^ 32) s → HalfRoot s r → Within (2 ^ 16) r
+half-small w h = record { size = omega (arith, ap natAbs (h .is), root-below (h .found) (2 ^ 16) (omega (arith, w .size))) }
+
+pub half-nonneg : {s r : ℤ} → HalfRoot s r → pos 0 ≤ℤ r
+half-nonneg h = omega (linear, h .is)
+
+pub half-found : {s r : ℤ} → HalfRoot s r → (k : ℕ) → k * k ≡ natAbs s / 2 → r ≡ pos k
+half-found h k e = h .is ∙ ap pos (root-is (h .found) k e)
 
 -- ---- halves
 module _ (z : Pair) (n : ℕ) (e : pos (n * n) ≡ norm z) where

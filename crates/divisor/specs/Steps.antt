@@ -1,15 +1,15 @@
 -- What the steps of a root and of a common divisor promise one another.
 --   Rest a b r         what a nearest quotient leaves over
---   HalfRoot s r       r is the root of the half of s where that is a square, and 0 where it is none
+--   HalfRoot s r       r is the whole root of the half of s
 --   Candidate z w      w is a root of z, if z has one, and its sign is the one that is kept
 use mathlib.Core.Path.{_≡_}
-use mathlib.Core.Logic.{_≢_}
-use Prim.Native.Nat.{ℕ, _*_, _/_, _^_}
+use Prim.Native.Nat.{_/_, _^_}
 use lib.IntN.{ℤ, pos, natAbs}
 use lib.Signed.{_≤ℤ_}
 use Rattle.pair.specs.declared.Pair.{Pair}
 use Rattle.pair.specs.Pairs.{minus, times, PartsWithin}
-use Rattle.whole.specs.Number.{Within}
+use Rattle.whole.specs.declared.Root.{Root}
+use Rattle.whole.specs.Promise.{IsRoot}
 use Rattle.divisor.specs.Promise.{NearestPair}
 
 pub record Rest (a b r : Pair) : Type 0 where
@@ -18,10 +18,9 @@ pub record Rest (a b r : Pair) : Type 0 where
   pub is : minus a (times quotient b) ≡ r
 
 pub record HalfRoot (s r : ℤ) : Type 0 where
-  pub small : Within (2 ^ 16) r
-  pub nonneg : pos 0 ≤ℤ r
-  pub finds : (k : ℕ) → k * k ≡ natAbs s / 2 → r ≡ pos k
-  pub none : ((k : ℕ) → k * k ≢ natAbs s / 2) → r ≡ pos 0
+  pub half : Root
+  pub found : IsRoot (natAbs s / 2) half
+  pub is : r ≡ pos (half .root)
 
 pub record Candidate (z w : Pair) : Type 0 where
   pub small : PartsWithin (2 ^ 30) w

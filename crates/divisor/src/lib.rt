@@ -6,6 +6,8 @@ use pair::equal;
 use pair::is_zero;
 use pair::norm;
 use pair::product;
+use whole::ends_as_a_square;
+use whole::square_root;
 ghost use mathlib.Core.Path.{_≡_};
 ghost use mathlib.Core.List.{_∷_, []};
 ghost use mathlib.Core.Logic.{_≢_};
@@ -125,15 +127,13 @@ pub fn gcd(a: Pair, b: Pair) -> Pair
     x
 }
 
-// The root of the half of s, and 0 where that is no square.
+// The whole root of the half of s, whatever it leaves over: `kept` multiplies out.
 fn half_root(s: i64) -> i64
     requires { ⌜ (pos 0 ≤ℤ s) × Within (2 ^ 32) s ⌝ }
     ensures { λ r. ⌜ HalfRoot s r ⌝ }
 {
-    match whole::square_root(s as u64 / 2) {
-        whole::Root::Square(r) => r as i64,
-        whole::Root::None => 0,
-    }
+    let half = square_root(s as u64 / 2);
+    half.root as i64
 }
 
 // A root of z, if it has one: a root u + iv has u² + v² = |z| = n, u² − v² = x and 2uv = y.
@@ -169,13 +169,18 @@ fn kept(z: Pair, w: Pair) -> PairRoot
     PairRoot::Root(w)
 }
 
-// The square root of a pair. A square has a whole size |z|, so most pairs that are none are refused by the first root.
+// The square root of a pair. A square has a whole size |z|, so most pairs that are none are refused by the last digits of |z|², or by its root.
 pub fn root(z: Pair) -> PairRoot
     requires { ⌜ PartsWithin (2 ^ 30) z ⌝ }
     ensures { λ r. ⌜ IsPairRoot z r ⌝ }
 {
-    match whole::square_root(norm(z) as u64) {
-        whole::Root::Square(n) => kept(z, candidate(z, n)),
-        whole::Root::None => PairRoot::None,
+    let squared = norm(z) as u64;
+    if !ends_as_a_square(squared) {
+        return PairRoot::None;
     }
+    let size = square_root(squared);
+    if size.rest != 0 {
+        return PairRoot::None;
+    }
+    kept(z, candidate(z, size.root))
 }

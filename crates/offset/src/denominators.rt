@@ -7,7 +7,6 @@ use root::Quartic;
 use verdict::PreimageAnswer;
 use verdict::Square;
 use verdict::preimage_of;
-use whole::Root;
 use whole::square_root;
 use whole::within;
 ghost use mathlib.Core.Path.{_≡_};
@@ -44,13 +43,12 @@ fn rooted(s: Square) -> Denominator
 {
     let c = s.c;
     let q = s.q;
-    match square_root(c as u64) {
-        Root::Square(m) => {
-            let w = multiple(m as i64, q);
-            Denominator::Found(w)
-        }
-        Root::None => Denominator::Refused(Refusal::Root),
+    let m = square_root(c as u64);
+    if m.rest != 0 {
+        return Denominator::Refused(Refusal::Root);
     }
+    let w = multiple(m.root as i64, q);
+    Denominator::Found(w)
 }
 
 // W, or the first cause why there is no offset, whatever the area.

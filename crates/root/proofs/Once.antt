@@ -3,18 +3,22 @@
 --   square-once         a square has one set of coefficients
 --   quartic-same        a struct is decided by its polynomial
 --   coefficient-once    `IsCoefficient` has one answer, for a divisor other than 0
+--   lead-once           `IsLead` has one answer
 --   search-once         and so has `IsSearch`, for a lead other than 0
 --   whole-root-once     and `IsWholeRoot`
 use mathlib.Core.Path.{_≡_, refl, sym, ap, _∙_}
 use mathlib.Core.List.{List}
-use mathlib.Core.Logic.{_≢_}
-use lib.IntN.{ℤ, pos}
+use mathlib.Core.Logic.{_≢_, _⊎_, inl, inr}
+use lib.IntN.{ℤ, pos, negℤ}
+use Rattle.whole.specs.declared.Exact.{Exact}
+use Rattle.whole.specs.declared.Exact.the-variants as exact
 use Rattle.whole.specs.Number.{wholes}
 use Rattle.whole.specs.Coefficients.{Coefficients}
 use Rattle.poly.specs.Polynomials.{Same}
 use Rattle.whole.proofs.Ring.{Ring}
+use Rattle.whole.proofs.Linear.{linear, negative-parts}
 use Rattle.whole.proofs.Wholes.{wholes-ring}
-use Rattle.poly.proofs.Domain.{Domain, squares-agree, UpToSign}
+use Rattle.poly.proofs.Domain.{Domain, roots-agree, squares-agree, UpToSign}
 use Rattle.poly.proofs.Wholes.{wholes-domain}
 use Rattle.root.specs.declared.Octic.{Octic}
 use Rattle.root.specs.declared.Quartic.{Quartic}
@@ -26,7 +30,7 @@ use Rattle.root.specs.declared.WholeRoot.{WholeRoot}
 use Rattle.root.specs.declared.WholeRoot.the-variants.{Root, None}
 use Rattle.root.specs.Search.{Lead, SmallRoot}
 use Rattle.root.specs.Promise.{quartic, IsSquare, IsWholeRoot}
-use Rattle.root.specs.Steps.{IsCoefficient, IsSearch}
+use Rattle.root.specs.Steps.{IsCoefficient, IsLead, IsSearch}
 use Rattle.root.proofs.Squared.{square-only}
 use Rattle.root.proofs.Downward.{whole-coefficient, upper-root-once}
 use Rattle.root.proofs.Leads.{positive-lead-once}
@@ -52,6 +56,16 @@ coefficient-once n t some Fraction TooLarge h k = absurd (h (record { factor = k
 coefficient-once n t some TooLarge (Whole y) h k = whole-coefficient some TooLarge h k
 coefficient-once n t some TooLarge Fraction h k = absurd (k (record { factor = h .0; is = h .1 }))
 coefficient-once n t some TooLarge TooLarge h k = refl
+
+pub lead-once : (m : ℤ) (r s : Exact) → IsLead m r → IsLead m s → r ≡ s
+lead-once m (exact.Whole x) (exact.Whole y) h k = ap exact.Whole (by (roots-agree wholes-ring wholes-domain x y (h .0 ∙ sym (k .0))))
+  where
+    by : (x ≡ y) ⊎ (x ≡ negℤ y) → x ≡ y
+    by (inl e) = e
+    by (inr e) = omega (linear, e, h .1, k .1, negative-parts y)
+lead-once m (exact.Whole x) exact.Fraction h k = absurd (k x (h .0))
+lead-once m exact.Fraction (exact.Whole y) h k = absurd (h y (k .0))
+lead-once m exact.Fraction exact.Fraction h k = refl
 
 pub search-once : (M : List ℤ) (s : ℤ) → s ≢ pos 0 → (r t : Search) → IsSearch M s r → IsSearch M s t → r ≡ t
 search-once M s some (Upper p) (Upper q) h k = ap Upper (quartic-same p q (upper-root-once M s some h k))

@@ -1,7 +1,7 @@
 // The square root of a polynomial over whole numbers, from the highest power down. Each coefficient is an exact quotient, so that the square
 // agrees from the fourth power up, and a comparison of the powers below decides.
 use whole::Exact;
-use whole::Root;
+use whole::ends_as_a_square;
 use whole::quotient;
 use whole::size;
 use whole::square_root;
@@ -17,7 +17,7 @@ ghost use Rattle.whole.specs.Promise.{Divisible};
 ghost use Rattle.poly.specs.Terms.{Above, Top};
 ghost use Rattle.root.specs.Search.{Each, SameBelow};
 ghost use Rattle.root.specs.Promise.{octic, quartic, Sized, Small, IsSquare, IsWholeRoot};
-ghost use Rattle.root.specs.Steps.{IsCoefficient, IsSearch};
+ghost use Rattle.root.specs.Steps.{IsCoefficient, IsLead, IsSearch};
 
 // How large a coefficient of a root may be.
 const ROOT_SIZE: u64 = 20000000;
@@ -153,19 +153,33 @@ fn candidate_of(m: Octic, s: i64) -> Search
     })
 }
 
+// The root of the highest coefficient, if it is a square.
+fn lead_of(m: i64) -> Exact
+    ensures { λ r. ⌜ IsLead m r ⌝ }
+{
+    if m < 0 {
+        return Exact::Fraction;
+    }
+    let n = m as u64;
+    if !ends_as_a_square(n) {
+        return Exact::Fraction;
+    }
+    let s = square_root(n);
+    if s.rest != 0 {
+        return Exact::Fraction;
+    }
+    Exact::Whole(s.root as i64)
+}
+
 // The root of a polynomial with a coefficient at the eighth power.
 fn quartic_root(m: Octic) -> WholeRoot
     requires { ⌜ Each wholes Sized (octic m) × Top wholes (octic m) 8 ⌝ }
     ensures { λ r. ⌜ IsWholeRoot (octic m) r ⌝ }
 {
-    let m8 = m.m8;
-    if m8 < 0 {
-        return WholeRoot::None;
-    }
-    let Root::Square(s) = square_root(m8 as u64) else {
+    let Exact::Whole(s) = lead_of(m.m8) else {
         return WholeRoot::None;
     };
-    let Search::Upper(q) = candidate_of(m, s as i64) else {
+    let Search::Upper(q) = candidate_of(m, s) else {
         return WholeRoot::None;
     };
     if same_below(square(q), m) {

@@ -18,8 +18,8 @@ use Rattle.totals.proofs.Reached.{hundredths-by}
 
 diagonal : Hundredths (record { c = pos 2; a = pos 60; b = pos 12 }) 707
 diagonal =
-    hundredths-by _ (record { some-c = omega linear; a-nonneg = omega linear; some-b = omega linear; small-b = omega arith; small = omega arith }) 707
-    (record { low = omega arith; high = omega arith })
+    hundredths-by _ (record { some-c = omega linear; a-nonneg = omega linear; some-b = omega linear; small-b = omega arith; small = omega arith })
+    (record { root = 707; rest = 151 }) (record { is = refl; small = omega arith })
 
 abbrev pub three : List (Answer (List Counted))
 three = given (No ∷ Pre 424 ∷ Pre 707 ∷ []) ∷ refuse refusal.Leftover 46 ∷ given (Pre 707 ∷ Still ∷ []) ∷ []

@@ -1,19 +1,20 @@
 -- How many hundredths a length has.
---   hundredths-by       the floor of the root of 10,000 c A² / B², and the quotient may be cut down first
+--   hundredths-by       the whole root of 10,000 c A² / B², and the quotient may be cut down first
 --   hundredths-once     there is one such number
 --   hundredths-next     and the next one is too large
 --   measurable          the length of a curve in range can be counted
 --   hundredths-small    and has at most 28,284,272 hundredths
 use mathlib.Core.Path.{_≡_, sym, subst}
-use Prim.Native.Nat.{ℕ, suc, _+_, _*_, _/_, _≤_, _<_}
+use Prim.Native.Nat.{ℕ, suc, _*_, _/_, _≤_, _<_}
 use native.Mathlib.Nat.{mul-le-mul, le-div-iff-mul-le}
-use native.Mathlib.Decide.{decLe}
 use native.Mathlib.Omega.{arith}
 use lib.IntN.{ℤ, pos, natAbs, _*ℤ_}
 use lib.Signed.{_≤ℤ_, _<ℤ_}
-use Rattle.whole.specs.Promise.{FloorRoot}
+use Rattle.whole.specs.declared.Root.{Root}
+use Rattle.whole.specs.Promise.{IsRoot}
 use Rattle.whole.proofs.Linear.{linear, abs-parts}
 use Rattle.whole.proofs.Order.{nonneg-is}
+use Rattle.whole.proofs.Squares.{root-most}
 use Rattle.pair.proofs.Laws.{root-le}
 use Rattle.curve.specs.declared.Curve.{Curve}
 use Rattle.curve.specs.declared.Curve.the-variants.{Cubic, Quintic}
@@ -25,14 +26,6 @@ use Rattle.measure.specs.Lengths.{lengthB, lengthOf}
 use Rattle.measure.proofs.LengthSizes.{longest-most, length-nonneg, length-size}
 use Rattle.totals.specs.Hundredths.{Reaches, Hundredths}
 use Rattle.totals.specs.Steps.{Measurable}
-
--- a number whose square is at most n is at most the floor
-root-most : (n r k : ℕ) → FloorRoot n r → k * k ≤ n → k ≤ r
-root-most n r k f h = by (decLe k r)
-  where
-    by : Dec (k ≤ r) → k ≤ r
-    by (yes l) = l
-    by (no l) = let above : r + 1 ≤ k = omega arith in absurd (omega (arith, f .high, mul-le-mul above above))
 
 -- ---- of a length whose numbers are not negative
 module _ (l : Length) (h : Measurable l) where
@@ -58,11 +51,13 @@ module _ (l : Length) (h : Measurable l) where
   below-reached : (m : ℕ) → m * m * squared ≤ limit → Reaches l m
   below-reached m k = subst (λ X. X) (sym (as-natural m)) (omega linear)
 
-  pub hundredths-by : (m : ℕ) → FloorRoot (limit / squared) m → Hundredths l m
-  hundredths-by m f = record {
-    reached = below-reached m (le-div-iff-mul-le squared-some .0 (f .low));
-    greatest = λ k r. root-most (limit / squared) m k f (le-div-iff-mul-le squared-some .1 (reached-below k r));
-  }
+  pub hundredths-by : (r : Root) → IsRoot (limit / squared) r → Hundredths l (r .root)
+  hundredths-by r f =
+      let low : r .root * r .root ≤ limit / squared = omega (arith, f .is) in
+      record {
+        reached = below-reached (r .root) (le-div-iff-mul-le squared-some .0 low);
+        greatest = λ k h. root-most f k (le-div-iff-mul-le squared-some .1 (reached-below k h));
+      }
 
 pub hundredths-once : (l : Length) (m n : ℕ) → Hundredths l m → Hundredths l n → m ≡ n
 hundredths-once l m n h k = omega (arith, h .greatest n (k .reached), k .greatest m (h .reached))

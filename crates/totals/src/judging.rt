@@ -6,8 +6,8 @@ use measure::lengths::Length;
 use verdict::Preimage;
 use verdict::Verdict;
 use verdict::recognise;
-use whole::floor_root;
 use whole::size;
+use whole::square_root;
 ghost use Rattle.curve.specs.Curves.{pointsOf, InRange, legPolynomial};
 ghost use Rattle.measure.specs.Lengths.{lengthOf};
 ghost use Rattle.verdict.specs.Verdicts.{PreimageOf};
@@ -22,7 +22,8 @@ fn hundredths(l: Length) -> u64
     let a = size(l.a);
     let b = size(l.b);
     let c = size(l.c);
-    floor_root(10000 * (c * (a * a)) / (b * b))
+    let m = square_root(10000 * (c * (a * a)) / (b * b));
+    m.root
 }
 
 fn measured(curve: Curve, p: Preimage) -> u64

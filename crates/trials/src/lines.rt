@@ -6,9 +6,12 @@ use crate::calls::answer;
 use crate::calls::runs_from;
 use crate::calls::suits;
 use crate::names::look_up;
+use crate::numbers::Size;
 use crate::numbers::arguments;
+use crate::numbers::size_in;
 use crate::places::Sought;
 use crate::places::find;
+use crate::roots::root;
 use crate::runs::no_byte;
 use crate::words::say;
 use crate::words::say_number;
@@ -31,6 +34,26 @@ fn say_wrong(text: &[u8], place: usize, line: usize, why: &[u8]) -> bool {
     false
 }
 
+// The root of the one word from a place on, which is a number of any 64 bits; false where there is no such word, or another behind it.
+fn ask_root(text: &[u8], from: usize, line: usize) -> bool
+    requires { ⌜ from ≤ length (now text) ⌝ }
+{
+    let start = find(text, from, Sought::Word);
+    let end = find(text, start, Sought::Gap);
+    if start == end || find(text, end, Sought::Word) < text.len() {
+        return false;
+    }
+    match size_in(&text[start..end]) {
+        Size::Of(n) => root(n),
+        Size::None => say_error(
+            line,
+            start + 1,
+            b"not a number from 0 to 18446744073709551615",
+        ),
+    }
+    true
+}
+
 // The call that is named, with the numbers from a place on; false where there is none, or it takes other numbers.
 fn ask(named: usize, text: &[u8], from: usize, line: usize, n: &mut [i64], area: &mut [u8]) -> bool
     requires { ⌜ from ≤ length (now text) ⌝ }
@@ -38,6 +61,9 @@ fn ask(named: usize, text: &[u8], from: usize, line: usize, n: &mut [i64], area:
 {
     if named == 0 {
         return false;
+    }
+    if named == 12 {
+        return ask_root(text, from, line);
     }
     let found = arguments(text, from, n);
     let count = found.count;

@@ -7,6 +7,7 @@ mod lines;
 mod names;
 mod numbers;
 mod places;
+mod roots;
 mod runs;
 mod sheets;
 mod words;

@@ -25,7 +25,8 @@ check RUNS: a sheet by its runs of equal bytes, each as BYTE HOW-MANY
 read NUMBER of RUNS: a curve of a sheet
 find NUMBER of RUNS: the bytes of a curve of a sheet
 erase RUNS: a sheet
-append C3 POINTS to RUNS, or append C5 POINTS to RUNS: 4 or 6 points, and a sheet",
+append C3 POINTS to RUNS, or append C5 POINTS to RUNS: 4 or 6 points, and a sheet
+root N: a number from 0 to 18446744073709551615",
         name,
         tell,
     )

@@ -19,6 +19,37 @@ pub(crate) struct Found {
     pub wrong: usize,
 }
 
+// A number without a sign.
+pub(crate) enum Size {
+    Of(u64),
+    None,
+}
+
+// One digit at least, and nothing but digits; no number beyond 64 bits.
+pub(crate) fn size_in(word: &[u8]) -> Size {
+    if word.len() == 0 {
+        return Size::None;
+    }
+    let mut n: u64 = 0;
+    let mut at: usize = 0;
+    while at < word.len() {
+        let b = word[at];
+        if b < b'0' {
+            return Size::None;
+        }
+        if b > b'9' {
+            return Size::None;
+        }
+        let digit = (b - b'0') as u64;
+        if n > (18446744073709551615 - digit) / 10 {
+            return Size::None;
+        }
+        n = n * 10 + digit;
+        at += 1;
+    }
+    Size::Of(n)
+}
+
 // A size with its sign, if 64 bits hold it.
 fn signed(negative: bool, n: u64) -> Worth {
     if n <= 9223372036854775807 {
@@ -31,29 +62,11 @@ fn signed(negative: bool, n: u64) -> Worth {
     Worth::Unknown
 }
 
-// One digit at least, and nothing but digits; no size beyond 64 bits.
 fn digits(word: &[u8], negative: bool) -> Worth {
-    if word.len() == 0 {
-        return Worth::Unknown;
+    match size_in(word) {
+        Size::Of(n) => signed(negative, n),
+        Size::None => Worth::Unknown,
     }
-    let mut n: u64 = 0;
-    let mut at: usize = 0;
-    while at < word.len() {
-        let b = word[at];
-        if n > 922337203685477580 {
-            return Worth::Unknown;
-        }
-        if b < b'0' {
-            return Worth::Unknown;
-        }
-        let digit = b - b'0';
-        if digit > 9 {
-            return Worth::Unknown;
-        }
-        n = n * 10 + digit as u64;
-        at += 1;
-    }
-    signed(negative, n)
 }
 
 fn number(word: &[u8]) -> Worth {

@@ -3,11 +3,11 @@
 --   IsQuotient       the exact quotient, or that there is none
 --   Shares n d       d divides n and is positive, and both are within the size of N
 --   Nearest n d q    q is the whole number nearest to n / d; of two that are equally near, the lower
---   FloorRoot n r    r is the greatest number whose square is at most n
---   IsRoot           the root of a square, or that no number squares to n
+--   IsRoot n r       the whole root of n and what is left over: root² + rest is n, and rest is at most twice the root
+--   EndsAsSquare n   the last six binary digits of n, which are its remainder by 64, are those of some square
 use mathlib.Core.Path.{_≡_}
 use mathlib.Core.Logic.{_≢_}
-use Prim.Native.Nat.{ℕ, _-_, _*_, _^_, _+_, _≤_, _<_}
+use Prim.Native.Nat.{ℕ, _-_, _*_, _%_, _^_, _+_, _≤_}
 use lib.IntN.{ℤ, pos, negsuc, negℤ, _-ℤ_, _*ℤ_}
 use lib.Signed.{_≤ℤ_, _<ℤ_}
 use Rattle.whole.specs.Coefficients.{Divides}
@@ -15,7 +15,6 @@ use Rattle.whole.specs.Number.{wholes, Within, normSize}
 use Rattle.whole.specs.declared.Exact.{Exact}
 use Rattle.whole.specs.declared.Exact.the-variants.{Whole, Fraction}
 use Rattle.whole.specs.declared.Root.{Root}
-use Rattle.whole.specs.declared.Root.the-variants.{Square, None}
 
 pub record Divisible (n d : ℤ) : Type 0 where
   pub nonzero : d ≢ pos 0
@@ -36,10 +35,10 @@ pub record Nearest (n d q : ℤ) : Type 0 where
   pub low : negℤ d <ℤ (pos 2 *ℤ (n -ℤ q *ℤ d))
   pub high : (pos 2 *ℤ (n -ℤ q *ℤ d)) ≤ℤ d
 
-pub record FloorRoot (n r : ℕ) : Type 0 where
-  pub low : r * r ≤ n
-  pub high : n < (r + 1) * (r + 1)
+pub record IsRoot (n : ℕ) (r : Root) : Type 0 where
+  pub is : r .root * r .root + r .rest ≡ n
+  pub small : r .rest ≤ 2 * r .root
 
-abbrev pub IsRoot : ℕ → Root → Type 0
-IsRoot n (Square r) = r * r ≡ n
-IsRoot n None = (r : ℕ) → r * r ≢ n
+pub record EndsAsSquare (n : ℕ) : Type 0 where
+  pub root : ℕ
+  pub ends : root * root % 64 ≡ n % 64

@@ -7,8 +7,8 @@ ghost use lib.IntN.{pos, natAbs, _*ℤ_};
 ghost use lib.Signed.{_<ℤ_};
 ghost use Rattle.whole.specs.Number.{wholes, Within, Tells, normSize};
 ghost use Rattle.whole.specs.Coefficients.{Greatest};
-ghost use Rattle.whole.specs.Promise.{Divisible, IsQuotient, Shares, Nearest, FloorRoot, IsRoot};
-ghost use Rattle.whole.specs.Steps.{OddPart, Guess, Passes};
+ghost use Rattle.whole.specs.Promise.{Divisible, IsQuotient, Shares, Nearest, IsRoot, EndsAsSquare};
+ghost use Rattle.whole.specs.Steps.{OddPart, Guess};
 
 // A quotient that has to be whole.
 pub enum Exact {
@@ -16,10 +16,10 @@ pub enum Exact {
     Fraction,
 }
 
-// A root that has to be whole.
-pub enum Root {
-    Square(u64),
-    None,
+// The whole root of a number, and what its square leaves over.
+pub struct Root {
+    pub root: u64,
+    pub rest: u64,
 }
 
 // n / d where d divides n.
@@ -68,40 +68,29 @@ fn guess(n: u64) -> u64
     ((1u64 << k) + (n >> k)) / 2
 }
 
-// The floor of the root by Newton's steps, each from above.
-pub fn floor_root(n: u64) -> u64
-    ensures { λ r. ⌜ FloorRoot n r ⌝ }
+// The root by Newton's steps, each from above.
+pub fn square_root(n: u64) -> Root
+    ensures { λ r. ⌜ IsRoot n r ⌝ }
 {
     if n == 0 {
-        return 0;
+        return Root { root: 0, rest: 0 };
     }
     let mut r = guess(n);
     while r * r > n {
         r = (r + n / r) / 2;
     }
-    r
+    Root {
+        root: r,
+        rest: n - r * r,
+    }
 }
 
-// Whether the last six binary digits of n are those of a square: the digits of the number stand for the remainders by 64.
-fn ends_as_a_square(n: u64) -> bool
-    ensures { λ r. ⌜ Passes n r ⌝ }
+// Whether n ends as squares do, in its last six binary digits: the digits of the number stand for the remainders by 64. Four of five
+// numbers that are no squares do not, and need no root.
+pub fn ends_as_a_square(n: u64) -> bool
+    ensures { λ r. ⌜ Tells (EndsAsSquare n) r ⌝ }
 {
     (144680414395695635u64 >> (n % 64)) % 2 == 1
-}
-
-// The root of a square. Most numbers that are none are refused by their last digits.
-pub fn square_root(n: u64) -> Root
-    ensures { λ r. ⌜ IsRoot n r ⌝ }
-{
-    if !ends_as_a_square(n) {
-        return Root::None;
-    }
-    let r = floor_root(n);
-    if r * r == n {
-        Root::Square(r)
-    } else {
-        Root::None
-    }
 }
 
 // How far x is from zero. The least i64 has no negative, so 1 is added on the way.

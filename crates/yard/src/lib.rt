@@ -1,7 +1,8 @@
-// The calls for C: include/yard.h declares them, with a comment for each, and `curve_calls` and `sheet_calls` make them.
+// The calls for C: include/yard.h declares them, with a comment for each, and `number_calls`, `curve_calls` and `sheet_calls` make them.
 // A call returns how many there are of what it answers, or, where it refuses, minus the refusal's number and 32 times its place.
 // A lent number area holds the answer from its start and zeros behind it; after a refusal it is all zero.
 ghost use Rattle.pair.specs.Pairs.{pair};
+ghost use Rattle.number_calls.specs.Promise.{RootCall};
 ghost use Rattle.curve_calls.specs.Promise.{RecogniseCall, LengthCall, InflectionCall, OffsetCall, BuildCall, JoinCall};
 ghost use Rattle.sheet_calls.specs.Promise.{CheckCall, ReadCall, FindCall, EraseCall, AppendCall, ReportCall};
 
@@ -95,4 +96,11 @@ pub extern "C" fn yard_report(s: &[u8], text: &mut [u8]) -> i64
     ensures { λ r. ⌜ ReportCall (now (s .entry)) (now (text .entry)) (now (text .exit)) r ⌝ }
 {
     sheet_calls::report(s, text)
+}
+
+#[no_mangle]
+pub extern "C" fn yard_root(n: u64, out: &mut [i64]) -> i64
+    ensures { λ r. ⌜ RootCall n (now (out .entry)) (now (out .exit)) r ⌝ }
+{
+    number_calls::root(n, out)
 }

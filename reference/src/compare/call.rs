@@ -16,9 +16,10 @@ pub enum Function {
     Erase = 10,
     Append = 11,
     Report = 12,
+    Root = 13,
 }
 
-pub const FUNCTIONS: [(Function, &str); 12] = [
+pub const FUNCTIONS: [(Function, &str); 13] = [
     (Function::Recognise, "yard_recognise"),
     (Function::Length, "yard_length"),
     (Function::Inflections, "yard_inflections"),
@@ -31,6 +32,7 @@ pub const FUNCTIONS: [(Function, &str); 12] = [
     (Function::Erase, "yard_erase"),
     (Function::Append, "yard_append"),
     (Function::Report, "yard_report"),
+    (Function::Root, "yard_root"),
 ];
 
 impl Function {
@@ -52,7 +54,7 @@ pub struct Areas {
 #[derive(Clone, Debug, PartialEq, Eq)]
 pub struct Call {
     pub function: Function,
-    /// h; x and y; the parts of a, z and T; or a curve's number, whose bits these are.
+    /// h; x and y; the parts of a, z and T; or a curve's number or the one whose root is asked, whose bits these are.
     pub singles: [i64; 6],
     pub before: Areas,
 }

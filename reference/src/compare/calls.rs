@@ -41,6 +41,7 @@ fn sound(chance: &mut Chance, function: Function) -> Call {
             before.numbers = pre_image(chance);
         }
         Joins => singles = ends(chance),
+        Root => singles[0] = any_number(chance) as i64,
         Read | Find => singles[0] = 1 + chance.below(sheets::curves(&before.sheet).max(1)) as i64,
         Report => {
             let room = LINE * (sheets::curves(&before.sheet) + 1);
@@ -69,7 +70,7 @@ fn needed(function: Function, numbers: usize) -> usize {
         Function::Build if numbers == 4 => 8,
         Function::Joins => 24,
         Function::Build | Function::Read => 12,
-        Function::Find => 2,
+        Function::Find | Function::Root => 2,
         _ => 30,
     }
 }
@@ -108,6 +109,19 @@ fn pre_image(chance: &mut Chance) -> Vec<i64> {
         .collect()
 }
 
+/// Of any width, the ends of the range, or beside the square of a root of any width: just below it, it, or the last before the next.
+fn any_number(chance: &mut Chance) -> u64 {
+    let any = chance.bits() >> chance.between(32, 63);
+    let k = chance.pick(&[any, any, any, u32::MAX.into()]);
+    match chance.below(8) {
+        0 => chance.bits() >> chance.below(64),
+        1 => chance.pick(&[0, u64::MAX]),
+        2 | 3 => (k * k).saturating_sub(1),
+        4 | 5 => k * k,
+        _ => k * k + 2 * k,
+    }
+}
+
 type Way = fn(&mut Chance, &mut Call);
 
 /// How a call of the function can be damaged.
@@ -117,6 +131,7 @@ fn ways(function: Function) -> &'static [Way] {
         Recognise | Length | Inflections => &[wrong_count, far_number, small_room],
         Offset | Build => &[wrong_count, far_number, far_single, small_room],
         Joins => &[far_single, dead_end, small_room],
+        Root => &[small_room],
         Check | Erase => &[hurt_sheet],
         Read | Find => &[hurt_sheet, other_number, small_room],
         Append => &[hurt_sheet, wrong_count, far_number],

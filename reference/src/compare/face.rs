@@ -9,6 +9,7 @@ use crate::offset::offset;
 use crate::pair::{pair, Pair};
 use crate::refusal::Refusal;
 use crate::report::report;
+use crate::root::root;
 use crate::sheet::{append, check, erase, read, Fault};
 use crate::verdict::{recognise, Ph, Pre, Verdict};
 
@@ -96,6 +97,10 @@ fn numbers_of(call: &Call) -> Result<(usize, Vec<i64>), Fault> {
             return Ok((triples.len(), narrow(parts(&triples.concat()))));
         }
         Function::Read => parts(of_number(call)?.points()),
+        Function::Root => {
+            let (root, rest) = root(call.singles[0] as u64);
+            vec![root.into(), rest.into()]
+        }
         _ => place_and_length(call)?,
     };
     Ok((numbers.len(), narrow(numbers)))

@@ -71,6 +71,23 @@ fn verdicts() {
 }
 
 #[test]
+fn roots() {
+    let of = |n: u64, room| {
+        let out = vec![-7; room];
+        let before = Areas {
+            out,
+            ..Areas::default()
+        };
+        told(Function::Root, [n as i64, 0, 0, 0, 0, 0], before)
+    };
+    is(&of(10, 2), 2, &[3, 1]);
+    is(&of(0, 4), 2, &[0, 0, 0, 0]);
+    is(&of(u64::MAX, 3), 2, &[4_294_967_295, 8_589_934_590, 0]);
+    is(&of(10, 1), -12, &[0]);
+    is(&of(10, 0), -12, &[]);
+}
+
+#[test]
 fn measures_and_offset() {
     is(
         &on_curve(Function::Length, &CASE_6, 0, 4),

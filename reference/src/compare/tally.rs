@@ -10,6 +10,7 @@ const SHEET_FAULTS: [Refusal; 6] = [TooLong, Cut, Leftover, Kind, Length, Range]
 const VERDICTS: [&str; 4] = ["still", "no", "ph", "pre"];
 const TRIPLES: [&str; 5] = ["none", "one", "two", "three", "four"];
 const TURNS: [&str; 4] = ["none", "one", "two", "straight"];
+const LEFT: [&str; 3] = ["nothing", "some", "most"];
 
 struct Row {
     function: Function,
@@ -84,6 +85,7 @@ fn answers(function: Function) -> &'static [&'static str] {
         Function::Check => &["empty", "curves"],
         Function::Erase | Function::Append => &["done"],
         Function::Report => &["report", "fault"],
+        Function::Root => &LEFT,
     }
 }
 
@@ -101,7 +103,7 @@ fn refusals(function: Function) -> Vec<Refusal> {
         Function::Read | Function::Find => [&SHEET_FAULTS[..], &[Number, Room]].concat(),
         Function::Erase => vec![TooLong],
         Function::Append => [&SHEET_FAULTS[..], &[Room]].concat(),
-        Function::Report => vec![Room],
+        Function::Report | Function::Root => vec![Room],
     }
 }
 
@@ -121,6 +123,8 @@ fn outcome(call: &Call, answer: &Answer) -> &'static str {
         Function::Check => usize::from(answer.returned > 0),
         Function::Erase | Function::Append => 0,
         Function::Report => usize::from(answer.after.text.starts_with(b"refused")),
+        // Of 0 nothing is left over, which is the most too.
+        Function::Root => usize::from(out[1] > 0) + usize::from(out[1] > 0 && out[1] == 2 * out[0]),
     };
     answers(call.function)[which]
 }

@@ -21,7 +21,7 @@ use Rattle.whole.proofs.Bound.{done, _▸_, bounds, within, fits-within, read-b
 use Rattle.pair.specs.declared.Pair.{Pair}
 use Rattle.pair.specs.Pairs.{times}
 use Rattle.divisor.specs.Steps.{HalfRoot}
-use Rattle.divisor.proofs.Halves.{norm-root-small, plus-nonneg, minus-nonneg, half-plus, half-minus, root-of-zero, quotient-nonneg, root-by-quotient}
+use Rattle.divisor.proofs.Halves.{half-small, half-nonneg, half-found, norm-root-small, plus-nonneg, minus-nonneg, half-plus, half-minus, root-of-zero, quotient-nonneg, root-by-quotient}
 use Rattle.divisor.proofs.candidate.Statement.{statement}
 use Rattle.divisor.proofs.candidate.Tie as tie
 
@@ -72,12 +72,15 @@ module _ (c : tie.After-half-root) where
   u-root : HalfRoot (pos (n t) +ℤ z t .re) u
   u-root = rw (n-is t, x-is t, read-back tt (plus-within t)) at (c .half-root .ensures)
 
+  u-small : Within (2 ^ 16) u
+  u-small = half-small (plus-within t) u-root
+
   u-is : toZ w64 (ofZ w64 u) ≡ u
-  u-is = read-back tt (u-root .small)
+  u-is = read-back tt u-small
 
   -- the first part of a root, but for its sign
   u-found : (r : Pair) → times r r ≡ z t → u ≡ pos (natAbs (r .re))
-  u-found r f = u-root .finds (natAbs (r .re)) (sym (half-plus (z t) (n t) (s t .pre .1) r f))
+  u-found r f = half-found u-root (natAbs (r .re)) (sym (half-plus (z t) (n t) (s t .pre .1) r f))
 
 sub-half-root : tie.Need-sub-half-root
 sub-half-root c = let t = c .before .before in rw (n-is t, x-is t) (fits-within (lit< tt) (minus-within t))
@@ -99,13 +102,13 @@ module _ (c : tie.Else1) where
   v = quotZ y d
 
   positive : pos 0 <ℤ u b
-  positive = let h = u-root b .nonneg in let n : natAbs (u b) ≢ 0 = (λ e. c .if1 .left (ap (ofZ w64) (abs-zero (u b) e))) in omega (linear, abs-parts (u b), one-part (u b))
+  positive = let h = half-nonneg (u-root b) in let n : natAbs (u b) ≢ 0 = (λ e. c .if1 .left (ap (ofZ w64) (abs-zero (u b) e))) in omega (linear, abs-parts (u b), one-part (u b))
 
   divisor : pos 0 <ℤ d
   divisor = positive-times positive (omega linear)
 
   d-within : Within (2 ^ 17) d
-  d-within = bounds (u-root b .small ▸ done) (λ ρ e k. simp (e 0, readℤ, read-pos ρ 2) (within k _ refl))
+  d-within = bounds (u-small b ▸ done) (λ ρ e k. simp (e 0, readℤ, read-pos ρ 2) (within k _ refl))
 
   d-is : toZ w64 (ofZ w64 d) ≡ d
   d-is = read-back tt d-within
@@ -125,21 +128,22 @@ returns : tie.Need-returns
 returns c =
     let b = c .before .before in
     let v-root : HalfRoot (pos (n (t b)) -ℤ z (t b) .re) (c .half-root2 .result) = rw (n-is (t b), x-is (t b), read-back tt (minus-within (t b))) at (c .half-root2 .ensures) in
-    let none : u b ≡ pos 0 = same-bits (fits-within (lit< tt) (u-root b .small)) (sfits-lit tt) (c .before .if1 .taken) in
-    rw (read-back tt (v-root .small))
+    let v-small = half-small (minus-within (t b)) v-root in
+    let none : u b ≡ pos 0 = same-bits (fits-within (lit< tt) (u-small b)) (sfits-lit tt) (c .before .if1 .taken) in
+    rw (read-back tt v-small)
     (record {
-      small = record { re = record { size = omega arith }; im = record { size = le-trans (v-root .small .size) (lit≤ tt) } };
+      small = record { re = record { size = omega arith }; im = record { size = le-trans (v-small .size) (lit≤ tt) } };
       first = omega linear;
-      second = λ h. v-root .nonneg;
-      finds = λ r f. root-of-zero r (abs-zero (r .re) (ap natAbs (sym (u-found b r f) ∙ none))) (v-root .finds (natAbs (r .im)) (sym (half-minus (z (t b)) (n (t b)) (s (t b) .pre .1) r f))) ∙ f;
+      second = λ h. half-nonneg v-root;
+      finds = λ r f. root-of-zero r (abs-zero (r .re) (ap natAbs (sym (u-found b r f) ∙ none))) (half-found v-root (natAbs (r .im)) (sym (half-minus (z (t b)) (n (t b)) (s (t b) .pre .1) r f))) ∙ f;
     })
 
 returns-2 : tie.Need-returns-2
 returns-2 c =
     rw (u-is (b c), y-is (t (b c)), d-is c, read-back tt (v-within c))
     (record {
-      small = record { re = record { size = le-trans (u-root (b c) .small .size) (lit≤ tt) }; im = v-within c };
-      first = u-root (b c) .nonneg;
+      small = record { re = record { size = le-trans (u-small (b c) .size) (lit≤ tt) }; im = v-within c };
+      first = half-nonneg (u-root (b c));
       second = λ h. quotient-nonneg h (divisor c);
       finds = λ r f. root-by-quotient r f (u-found (b c) r f) (positive c);
     })

@@ -1,19 +1,15 @@
 -- `divisor::half_root` meets its contract.
-use mathlib.Core.Path.{_≡_, refl, sym, ap, _∙_, subst}
-use Prim.Native.Nat.{ℕ, _*_, _/_, _^_}
+use mathlib.Core.Path.{_≡_, subst}
+use Prim.Native.Nat.{_/_, _^_, _<_}
 use native.Mathlib.Omega.{arith}
 use borrow.Author.Needs.{needs}
-use lib.Dec.{lit<}
-use lib.IntN.{pos, natAbs}
+use lib.IntN.{natAbs}
 use mir.Syntax.{w64}
 use mir.Val.{toZ, ofZ}
-use mir.ValLaws.{toZ-ofZ}
-use Rattle.whole.specs.Number.{Within}
+use mir.ValLaws.{toZ-ofZ, toZ-pos}
 use Rattle.whole.specs.Promise.{IsRoot}
-use Rattle.whole.proofs.Bound.{fits-within}
-use Rattle.whole.proofs.Linear.{linear}
 use Rattle.whole.proofs.Machine.{cast-asks}
-use Rattle.pair.proofs.Laws.{root-le, root-equal}
+use Rattle.whole.proofs.Squares.{root-below}
 use Rattle.divisor.proofs.half_root.Statement.{statement}
 use Rattle.divisor.proofs.half_root.Tie as tie
 
@@ -26,47 +22,19 @@ cast-square-root c = rw (s-is c) (cast-asks (c .pre .0) (c .fits .s))
 square-root-requires : tie.Need-square-root-requires
 square-root-requires c κs = search needs
 
-enum-known-r : tie.Need-enum-known-r
-enum-known-r c = search needs
+found : (c : tie.After-square-root) → IsRoot (natAbs (c .before .args .s) / 2) (c .square-root .result)
+found c = subst (λ z. IsRoot (natAbs z / 2) (c .square-root .result)) (s-is (c .before)) (c .square-root .ensures)
 
-module _ (c : tie.After-known-told) where
-  abbrev s : tie.Start
-  s = c .before .before .before .before
-
-  abbrev r : ℕ
-  r = c .before .r .given .0 .0
-
-  square : r * r ≡ natAbs (s .args .s) / 2
-  square = subst (IsRoot _) (c .before .r .given .1) (c .before .before .before .square-root .ensures) ∙ ap (λ z. natAbs z / 2) (s-is s)
-
-  small : Within (2 ^ 16) (pos r)
-  small = record { size = root-le r (2 ^ 16) (omega (arith, square, s .pre .1 .size)) }
+small : (c : tie.After-square-root) → c .square-root .result .root < 2 ^ 16
+small c = root-below (found c) (2 ^ 16) (omega (arith, c .before .pre .1 .size))
 
 cast-result : tie.Need-cast-result
-cast-result c = fits-within (lit< tt) (small c)
-
-enum-told : tie.Need-enum-told
-enum-told c = search needs
+cast-result c = record { sfits = omega (arith, small (c .before)) }
 
 returns : tie.Need-returns
 returns c =
-    rw (toZ-ofZ w64 (pos (r c)) (fits-within (lit< tt) (small c)))
-    (record { small = small c; nonneg = omega linear; finds = λ k e. ap pos (root-equal (r c) k (square c ∙ sym e)); none = λ h. absurd (h (r c) (square c)) })
-
-returns-2 : tie.Need-returns-2
-returns-2 c =
-    let t = c .before .before .before in
-    let none = subst (IsRoot _) (c .enum-told .given .1) (c .before .before .square-root .ensures) in
-    record { small = record { size = omega arith }; nonneg = omega linear; finds = λ k e. absurd (none k (e ∙ ap (λ z. natAbs z / 2) (sym (s-is t)))); none = λ h. refl }
+    let b = c .before in
+    record { half = b .square-root .result; found = found b; is = toZ-pos w64 (b .square-root .result .root) (omega (arith, small b)) }
 
 pub half-root-spec : {M : Type 1} → statement M
-half-root-spec =
-    tie.close
-    (tie.spec
-    cast-square-root
-    square-root-requires
-    enum-known-r
-    cast-result
-    enum-told
-    returns
-    returns-2)
+half-root-spec = tie.close (tie.spec cast-square-root square-root-requires cast-result returns)

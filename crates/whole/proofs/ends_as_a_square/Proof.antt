@@ -1,9 +1,6 @@
 -- `whole::ends_as_a_square` meets its contract.
-use mathlib.Core.Path.{_≡_, subst}
-use mathlib.Core.Bool.{true}
-use Prim.Native.Nat.{ℕ, _%_}
 use borrow.Author.Needs.{needs}
-use Rattle.whole.proofs.Squares.{marked, square-digit}
+use Rattle.whole.proofs.Squares.{ends-tell}
 use Rattle.whole.proofs.ends_as_a_square.Statement.{statement}
 use Rattle.whole.proofs.ends_as_a_square.Tie as tie
 
@@ -11,7 +8,7 @@ shr-result : tie.Need-shr-result
 shr-result c = search needs
 
 returns : tie.Need-returns
-returns c k e = subst (λ (n : ℕ). marked (n % 64) ≡ true) e (square-digit k)
+returns c = ends-tell (c .args .n)
 
 pub ends-as-a-square-spec : {M : Type 1} → statement M
 ends-as-a-square-spec = tie.close (tie.spec shr-result returns)

@@ -20,6 +20,7 @@ use Rattle.whole.proofs.Bound.{fits-within}
 use Rattle.whole.proofs.Linear.{linear, abs-parts}
 use Rattle.whole.proofs.Order.{nonneg-is}
 use Rattle.whole.proofs.Machine.{cast-asks}
+use Rattle.whole.proofs.Squares.{root-below, no-root}
 use Rattle.poly.proofs.Lists.{at-scaled}
 use Rattle.pair.proofs.Laws.{root-le}
 use Rattle.root.specs.Promise.{quartic, rootSize}
@@ -46,21 +47,29 @@ cast-square-root c = let p = c .before .before .pre .positive in rw (c-kept c) (
 square-root-requires : tie.Need-square-root-requires
 square-root-requires c κs = search needs
 
-enum-known-m : tie.Need-enum-known-m
-enum-known-m c = search needs
+found : (c : tie.After-square-root) → IsRoot (natAbs (s (c .before) .c)) (c .square-root .result)
+found c = subst (λ z. IsRoot (natAbs z) (c .square-root .result)) (c-kept (c .before)) (c .square-root .ensures)
 
-module _ (c : tie.After-known-told) where
+returns : tie.Need-returns
+returns c =
+    let k = c .before .before in
+    (inl (λ m e. no-root (found k) (λ none. omega (arith, c .if1 .taken, none)) m (sym (ap natAbs e)), refl), refl)
+
+module _ (c : tie.After-struct-known2) where
+  abbrev k : tie.After-square-root
+  k = c .before .before .before
+
   abbrev t : tie.After-q
-  t = c .before .before .before .before
+  t = k .before
 
   abbrev m : ℕ
-  m = c .before .m .given .0 .0
+  m = k .square-root .result .root
 
   square : m * m ≡ natAbs (s t .c)
-  square = subst (IsRoot _) (c .before .m .given .1) (c .before .before .before .square-root .ensures) ∙ ap natAbs (c-kept t)
+  square = omega (arith, found k .is, c .before .if1 .left)
 
   m-small : Within (2 ^ 32) (pos m)
-  m-small = let f = c-fits t in record { size = root-le m (2 ^ 32) (omega (linear, square, abs-parts (s t .c))) }
+  m-small = let f = c-fits t in record { size = omega (arith, root-below (found k) (2 ^ 32) (omega (linear, abs-parts (s t .c)))) }
 
   m-kept : toZ w64 (ofZ w64 (pos m)) ≡ pos m
   m-kept = toZ-ofZ w64 (pos m) (fits-within (lit< tt) m-small)
@@ -86,11 +95,8 @@ cast-multiple c = fits-within (lit< tt) (m-small c)
 multiple-requires : tie.Need-multiple-requires
 multiple-requires c κs = (rw (m-kept c) (m-small c), q-small c)
 
-enum-told : tie.Need-enum-told
-enum-told c = search needs
-
-returns : tie.Need-returns
-returns c =
+returns-2 : tie.Need-returns-2
+returns-2 c =
     let k = c .before in
     let e : quartic (c .multiple .result) ≡ scaled wholes (pos (m k)) (quartic (s (t k) .q)) = c .multiple .ensures ∙ ap (λ z. scaled wholes z (quartic (s (t k) .q))) (m-kept k) in
     let root = c-is (t k) ∙ ap pos (sym (square k)) in (
@@ -103,11 +109,5 @@ returns c =
       },
     )
 
-returns-2 : tie.Need-returns-2
-returns-2 c =
-    let q = c .before .before .before in
-    let none = subst (IsRoot _) (c .enum-told .given .1) (c .before .before .square-root .ensures) in
-    (inl (λ m e. none m (sym (ap natAbs (c-kept q ∙ e))), refl), refl)
-
 pub rooted-spec : {M : Type 1} → statement M
-rooted-spec = tie.close (tie.spec cast-square-root square-root-requires enum-known-m cast-multiple multiple-requires enum-told returns returns-2)
+rooted-spec = tie.close (tie.spec cast-square-root square-root-requires returns cast-multiple multiple-requires returns-2)

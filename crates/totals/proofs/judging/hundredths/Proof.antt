@@ -1,4 +1,4 @@
--- `judging::hundredths` meets its contract: the floor of the root of 10,000 c A² over B².
+-- `judging::hundredths` meets its contract: the whole root of 10,000 c A² over B².
 use mathlib.Core.Path.{_≡_, sym, ap, ap₂, _∙_, subst}
 use Prim.Native.Nat.{ℕ, _*_, _/_, _≤_}
 use native.Mathlib.Nat.{le-refl, mul-le-mul}
@@ -7,7 +7,7 @@ use lib.IntN.{natAbs}
 use mir.Syntax.{w64}
 use mir.Val.{SFits}
 use mir.ValLaws.{toZ-ofZ}
-use Rattle.whole.specs.Promise.{FloorRoot}
+use Rattle.whole.specs.Promise.{IsRoot}
 use Rattle.verdict.proofs.RootSizes.{positive-size}
 use Rattle.measure.specs.declared.lengths.Length.{Length}
 use Rattle.totals.specs.Steps.{Measurable}
@@ -75,30 +75,30 @@ module _ (c : tie.After-size3) where
   small-b : b ≤ 12
   small-b = rw b-is (measurable .small-b)
 
-mul-floor-root : tie.Need-mul-floor-root
-mul-floor-root c = omega (arith, small c, mul-le-mul (some-c c) (le-refl (a c * a c)))
+mul-square-root : tie.Need-mul-square-root
+mul-square-root c = omega (arith, small c, mul-le-mul (some-c c) (le-refl (a c * a c)))
 
-mul-floor-root-2 : tie.Need-mul-floor-root-2
-mul-floor-root-2 c = omega (arith, small c)
+mul-square-root-2 : tie.Need-mul-square-root-2
+mul-square-root-2 c = omega (arith, small c)
 
-mul-floor-root-3 : tie.Need-mul-floor-root-3
-mul-floor-root-3 c = omega (arith, small c)
+mul-square-root-3 : tie.Need-mul-square-root-3
+mul-square-root-3 c = omega (arith, small c)
 
-mul-floor-root-4 : tie.Need-mul-floor-root-4
-mul-floor-root-4 c = omega (arith, mul-le-mul (small-b c) (small-b c))
+mul-square-root-4 : tie.Need-mul-square-root-4
+mul-square-root-4 c = omega (arith, mul-le-mul (small-b c) (small-b c))
 
-div-floor-root : tie.Need-div-floor-root
-div-floor-root c = omega (arith, mul-le-mul (some-b c) (some-b c))
+div-square-root : tie.Need-div-square-root
+div-square-root c = omega (arith, mul-le-mul (some-b c) (some-b c))
 
-floor-root-requires : tie.Need-floor-root-requires
-floor-root-requires c κs = search needs
+square-root-requires : tie.Need-square-root-requires
+square-root-requires c κs = search needs
 
 returns : tie.Need-returns
 returns c =
     let s = c .before in
-    let m = c .floor-root .result in
-    hundredths-by (l s) (measurable s) m
-    (subst (λ (n : ℕ). FloorRoot n m) (λ i. 10000 * (k-is s i * (a-is s i * a-is s i)) / (b-is s i * b-is s i)) (c .floor-root .ensures))
+    let r = c .square-root .result in
+    hundredths-by (l s) (measurable s) r
+    (subst (λ (n : ℕ). IsRoot n r) (λ i. 10000 * (k-is s i * (a-is s i * a-is s i)) / (b-is s i * b-is s i)) (c .square-root .ensures))
 
 pub hundredths-spec : {M : Type 1} → statement M
 hundredths-spec =
@@ -107,10 +107,10 @@ hundredths-spec =
     size-requires
     size-requires-2
     size-requires-3
-    mul-floor-root
-    mul-floor-root-2
-    mul-floor-root-3
-    mul-floor-root-4
-    div-floor-root
-    floor-root-requires
+    mul-square-root
+    mul-square-root-2
+    mul-square-root-3
+    mul-square-root-4
+    div-square-root
+    square-root-requires
     returns)

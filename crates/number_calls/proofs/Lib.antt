@@ -1,0 +1,2 @@
+-- One answer of each call on a number.
+pub mod Once
