@@ -149,19 +149,22 @@ static void set_ends(struct ends *e, pair a, pair z, pair travel) {
     *e = (struct ends){{a.re, a.im}, {z.re, z.im}, {travel.re, travel.im}};
 }
 
-/* The ends and the travel of a small triple. 15, -9, -3 times a pair is a shape with three triples. */
+/* The ends and the travel of a small triple, half of them with a half step. 15, -18, -3 times a pair is a shape with three triples. */
 static void draw_triple(struct ends *e, int64_t wanted) {
     int64_t limit = 2 + (int64_t)draw(10);
-    pair w0 = draw_pair(limit), w1 = draw_pair(limit), w2 = draw_pair(limit);
+    pair w0 = draw_pair(limit), v = draw_pair(limit), w2 = draw_pair(limit);
     if (wanted == 3) {
         pair one = draw_pair(5);
-        w0 = times(one, 15), w1 = times(one, -9), w2 = times(one, -3);
-    }
+        w0 = times(one, 15), v = times(one, -18), w2 = times(one, -3);
+    } else if (draw(2))
+        v = times(v, 2);
+    else
+        w0 = times(w0, 2), w2 = times(w2, 2);
     pair a = product(w0, w0), z = product(w2, w2);
-    pair beside = sum(product(w0, w1), product(w1, w2)), middle = sum(times(product(w1, w1), 2), product(w0, w2));
-    pair travel = sum(times(sum(sum(a, z), beside), 3), middle);
-    pair third = {travel.re / 3, travel.im / 3};
-    set_ends(e, a, z, wanted == 0 ? sum(third, draw_pair(9)) : third);
+    pair beside = sum(product(w0, v), product(v, w2)), middle = sum(product(v, v), times(product(w0, w2), 2));
+    pair travel = sum(sum(times(sum(a, z), 6), times(beside, 3)), middle);
+    pair sixth = {travel.re / 6, travel.im / 6};
+    set_ends(e, a, z, wanted == 0 ? sum(sixth, draw_pair(9)) : sixth);
 }
 
 static void draw_apart(struct ends *e) {

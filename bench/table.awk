@@ -42,7 +42,7 @@ END {
     goal("recognise: ph no slower than plain code", 1, 1 / ratio["recognise: ph/plain"], "times its time", "most", 1)
     counted = count["recognise/library"]
     goal("recognise in at most 400 instructions", counted ~ /^[0-9]+$/, counted, "instructions", "most", 400)
-    goal("joins within 1.5 times of plain code", 1, 1 / ratio["joins/plain"], "times its time", "most", 1.5)
+    goal("joins no slower than plain code", 1, 1 / ratio["joins/plain"], "times its time", "most", 1)
     goal("a box of a thousand full sheets in at most 100 ms", 1, ns["box/library"] / 1000, "ms", "most", 100)
     goal("sheet check at least 2 GB/s", 1, 4096 / ns["sheet check/library"], "GB/s", "least", 2)
 }

@@ -110,11 +110,14 @@ int64_t yard_offset(const int64_t *p, size_t n, int64_t h, int64_t *out, size_t 
  * 12). */
 int64_t yard_build(int64_t x, int64_t y, const int64_t *w, size_t n, int64_t *out, size_t room);
 
-/* The curves between two ends: all quintics of whole pairs w0, w1, w2 whose first leg is a, whose last leg is z and
- * whose last point lies T from the first. Parts of a and z go from -20,000 to 20,000, those of T from -40,000 to
- * 40,000. out: six numbers a triple, w0, w1, w2, real before imaginary, in ascending order of w2 and then of w1; of
- * a triple and its negative, which are one curve, the one whose w0 has its first non-zero part positive. Returns
- * the count of triples, 0 to 4.
+/* The curves between two ends: all quintics with whole legs whose first leg is a, whose last leg is z, whose last
+ * point lies T from the first, and whose leg polynomial is the square of a quadratic with complex coefficients, whole
+ * or fractional. Parts of a and z go from -20,000 to 20,000, those of T from -40,000 to 40,000. A curve is three
+ * pairs: w0 and w2, the first and the last Bernstein coefficient of that quadratic, and V, twice the middle one, which
+ * may be a half. Its legs are w0^2, w0 V / 2, (V^2 + 2 w0 w2) / 6, V w2 / 2 and w2^2; where both parts of V are even,
+ * yard_build makes it from w0, V / 2 and w2. out: six numbers a curve, w0, V, w2, real before imaginary, in ascending
+ * order of w2 and then of V; of a triple and its negative, which are one curve, the one whose w0 has its first
+ * non-zero part positive. Returns the count of curves, 0 to 4.
  * Refuses: RANGE, DEAD END, ROOM (below 24, however many there are). */
 int64_t yard_joins(int64_t ax, int64_t ay, int64_t zx, int64_t zy, int64_t tx, int64_t ty, int64_t *out, size_t room);
 

@@ -235,7 +235,7 @@ mod tests {
         let built = "x: (0,0) (1,0) (1,1) (0,1)";
         assert_eq!(answer("build (0,0) from (1,0) (0,1)"), built);
         assert_eq!(answer("build (0,0) from (0,0) (0,0)"), "x: refused 8");
-        let two = "x: 2 joins: 1 0 -4 0 1 0 1 0 1 0 1 0 and 12 zeros";
+        let two = "x: 2 joins: 1 0 -8 0 1 0 1 0 2 0 1 0 and 12 zeros";
         assert_eq!(answer("joins (1,0) (1,0) over (5,0) in 24"), two);
         let none = "x: 0 joins and 25 zeros";
         assert_eq!(answer("joins (2,0) (1,0) over (5,0) in 25"), none);

@@ -3,7 +3,9 @@
 --   not-generated          D is no κ w²: |D(x) D(y)|² is between two squares
 --   lead-at                the lead of a list that has only zeros behind a power
 --   square-by              c and q, from N = c q² where c is itself a coefficient of N
---   preimage-by            κ and w, from D = κ w² where w has a unit for a coefficient; c = |κ|² and q = |w|²
+--   combined-coprime       two coefficients of w whose combination is 1 have no common divisor
+--   preimage-with          κ and w, from D = κ w² where w has no common divisor; c = |κ|² and q = |w|²
+--   preimage-by            the same where w has a unit for a coefficient
 -- An equation of polynomials is one of lists here, with zeros behind the shorter one.
 use mathlib.Core.Path.{_≡_, sym, ap, _∙_, subst}
 use mathlib.Core.List.{List, _++_}
@@ -14,15 +16,16 @@ use lib.Signed.{_<ℤ_}
 use Rattle.whole.specs.Coefficients.{Coefficients, at, Divides, Greatest}
 use Rattle.poly.specs.Polynomials.{scaled, square}
 use Rattle.whole.specs.Number.{wholes, FirstPositive}
+use Rattle.whole.proofs.Divisor.{divides-plus}
 use Rattle.whole.proofs.Wholes.{wholes-ring}
 use Rattle.whole.proofs.Squares.{Between, between-no-square}
 use Rattle.poly.specs.Terms.{value}
 use Rattle.poly.proofs.Lists.{at-scaled}
 use Rattle.poly.proofs.Zeros.{same-padded, above-zeros}
 use Rattle.poly.proofs.Value.{values-square}
-use Rattle.poly.proofs.Divisibility.{unit-divisor}
+use Rattle.poly.proofs.Divisibility.{divides-times, unit-of-one, unit-divisor}
 use Rattle.pair.specs.declared.Pair.{Pair}
-use Rattle.pair.specs.Pairs.{pairs, times, norm}
+use Rattle.pair.specs.Pairs.{pairs, one, plus, times, norm}
 use Rattle.pair.proofs.Laws.{pairs-ring, norm-times, norm-some}
 use Rattle.divisor.proofs.Units.{norm-unit}
 use Rattle.divisor.proofs.Roots.{first-some}
@@ -65,10 +68,14 @@ square-by {D} {s} n k e c h l = record {
     squared : Squared D (s .c) (quartic (s .q))
     squared = same-padded wholes n (normPolynomial D) (scaled wholes (s .c) (square wholes (quartic (s .q)))) e
 
-pub preimage-by : {D : List Pair} {p : Preimage} (n k : ℕ) → D ++ replicate n (pairs .none) ≡ scaled pairs (p .kappa) (square pairs (quadratic (p .w)))
-    → norm (at pairs (quadratic (p .w)) k) ≡ pos 1 → FirstPositive (p .kappa .re) (p .kappa .im) → LeadKept (quadratic (p .w))
+pub combined-coprime : (w : List Pair) (j k : ℕ) (x y : Pair) → plus (times (at pairs w j) x) (times (at pairs w k) y) ≡ one → Coprime w
+combined-coprime w j k x y e =
+    primitive-coprime w (λ d h. unit-of-one pairs-ring (subst (Divides pairs d) e (divides-plus pairs-ring (divides-times pairs-ring (h j) x) (divides-times pairs-ring (h k) y))))
+
+pub preimage-with : {D : List Pair} {p : Preimage} (n : ℕ) → D ++ replicate n (pairs .none) ≡ scaled pairs (p .kappa) (square pairs (quadratic (p .w)))
+    → Coprime (quadratic (p .w)) → FirstPositive (p .kappa .re) (p .kappa .im) → LeadKept (quadratic (p .w))
     → norm (p .kappa) ≡ p .square .c → normPolynomial (quadratic (p .w)) ≡ quartic (p .square .q) → PreimageOf D p
-preimage-by {D} {p} n k e u f l c q = record {
+preimage-with {D} {p} n e coprime f l c q = record {
   generated = generated;
   coprime = coprime;
   factor = f;
@@ -87,5 +94,7 @@ preimage-by {D} {p} n k e u f l c q = record {
     generated : Generated D (p .kappa) w
     generated = same-padded pairs n D (scaled pairs (p .kappa) (square pairs w)) e
 
-    coprime : Coprime w
-    coprime = primitive-coprime w (λ d h. unit-divisor pairs-ring (h k) (norm-unit (at pairs w k) u))
+pub preimage-by : {D : List Pair} {p : Preimage} (n k : ℕ) → D ++ replicate n (pairs .none) ≡ scaled pairs (p .kappa) (square pairs (quadratic (p .w)))
+    → norm (at pairs (quadratic (p .w)) k) ≡ pos 1 → FirstPositive (p .kappa .re) (p .kappa .im) → LeadKept (quadratic (p .w))
+    → norm (p .kappa) ≡ p .square .c → normPolynomial (quadratic (p .w)) ≡ quartic (p .square .q) → PreimageOf D p
+preimage-by {p} n k e u = let w = quadratic (p .w) in preimage-with n e (primitive-coprime w (λ d h. unit-divisor pairs-ring (h k) (norm-unit (at pairs w k) u)))

@@ -1,6 +1,7 @@
 -- The starred cases hold. Each row is a certificate (Certificates.antt says of what), and the rest is computed.
 --   table-holds     the one statement over the table
 use mathlib.Core.Path.{refl}
+use mathlib.Core.List.{[], _∷_}
 use mathlib.Core.Logic.{inl, inr}
 use native.Mathlib.Omega.{arith}
 use lib.IntN.{pos}
@@ -8,7 +9,7 @@ use Rattle.poly.specs.Polynomials.{sum, scaled, product}
 use Rattle.whole.specs.Number.{wholes}
 use Rattle.whole.proofs.Linear.{linear}
 use Rattle.poly.specs.Terms.{value}
-use Rattle.pair.specs.Pairs.{pairs}
+use Rattle.pair.specs.Pairs.{pair, pairs}
 use Rattle.bernstein.specs.Binomials.{choose, total}
 use Rattle.bernstein.specs.Powers.{differences, kthDifferences, powerForm}
 use Rattle.curve.specs.Curves.{legPolynomial, normPolynomial}
@@ -17,8 +18,8 @@ use Rattle.offset.specs.Promise.{pointNumbers}
 use Rattle.join.specs.Promise.{numbers}
 use Rattle.cases.proofs.Joins as join
 use Rattle.cases.specs.Rows.{RowHolds, All}
-use Rattle.cases.specs.Table.{neg, point, case-1, case-2, case-3, case-4, case-5, case-6, case-7, case-8, case-9, case-2-offset, table}
-use Rattle.cases.proofs.Certificates.{lead-at, square-by, preimage-by}
+use Rattle.cases.specs.Table.{neg, point, case-1, case-2, case-3, case-4, case-5, case-6, case-7, case-8, case-9, student-curve, student-joins, case-2-offset, table}
+use Rattle.cases.proofs.Certificates.{lead-at, square-by, combined-coprime, preimage-with, preimage-by}
 use Rattle.cases.proofs.Promised.{no-row, ph-row, pre-row, measured, long, turned, offset, joins-row}
 
 row-1 : RowHolds case-1
@@ -72,6 +73,17 @@ row-9 : RowHolds case-9
 unfolding numbers
 row-9 = joins-row (omega arith) (omega arith) (omega arith) (omega arith) join.case-9
 
+row-student-curve : RowHolds student-curve
+unfolding normPolynomial legPolynomial powerForm kthDifferences differences choose sum scaled product
+row-student-curve =
+    pre-row (omega arith)
+    (preimage-with 0 refl (combined-coprime (pair (pos 1) (neg 1) ∷ pair (neg 1) (pos 2) ∷ point 2 1 ∷ []) 0 2 (pair (neg 2) (neg 2)) (pair (pos 2) (neg 1)) refl) (inr (refl, omega linear)) (lead-at pairs 2 0 refl (inl (omega linear))) refl refl)
+    (λ i. (refl, tt))
+
+row-student-joins : RowHolds student-joins
+unfolding numbers
+row-student-joins = joins-row (omega arith) (omega arith) (omega arith) (omega arith) join.student
+
 row-2-offset : RowHolds case-2-offset
 unfolding normPolynomial legPolynomial powerForm kthDifferences differences choose sum scaled product total pointNumbers
 row-2-offset =
@@ -79,4 +91,4 @@ row-2-offset =
     (λ i. (offset i 1 refl (record { size = omega arith }) refl refl, tt))
 
 pub table-holds : All table
-table-holds = (row-1, (row-2, (row-3, (row-4, (row-5, (row-6, (row-7, (row-8, (row-9, (row-2-offset, tt))))))))))
+table-holds = (row-1, (row-2, (row-3, (row-4, (row-5, (row-6, (row-7, (row-8, (row-9, (row-student-curve, (row-student-joins, (row-2-offset, tt))))))))))))

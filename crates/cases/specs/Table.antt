@@ -51,7 +51,7 @@ abbrev pub ph : ℤ → Quartic → Verdict
 ph c q = Ph (record { c = c; q = q })
 
 abbrev pub triple : Pair → Pair → Pair → Triple
-triple w0 w1 w2 = record { w0 = w0; w1 = w1; w2 = w2 }
+triple w0 v w2 = record { w0 = w0; v = v; w2 = w2 }
 
 -- κ = 1, w = 1; offset h = 2: point k is (252, 140 k, −504)
 abbrev pub case-1 : Row
@@ -94,14 +94,25 @@ case-7 = curve-is (quintic (point 0 0) (point 1 0) (pair (neg 1) (neg 1)) (point
     (pre (point 1 0) (w (point 1 0) (pair (neg 6) (neg 2)) (point 5 3)) (pos 1) (q (pos 1) (neg 12) (pos 50) (neg 72) (pos 34)))
     (length-is (pos 1) (pos 28) (pos 12) ∷ turning-is (neg 2) (pos 6) (neg 8) 0 ∷ [])
 
--- a = 1, z = 1, T = 5: (1; −4; 1) and (1; 1; 1)
+-- a = 1, z = 1, T = 5: (1; −8; 1) and (1; 2; 1)
 abbrev pub case-8 : Row
-case-8 = joins-are (point 1 0) (point 1 0) (point 5 0) (triple (point 1 0) (pair (neg 4) (pos 0)) (point 1 0) ∷ triple (point 1 0) (point 1 0) (point 1 0) ∷ [])
+case-8 = joins-are (point 1 0) (point 1 0) (point 5 0) (triple (point 1 0) (pair (neg 8) (pos 0)) (point 1 0) ∷ triple (point 1 0) (point 2 0) (point 1 0) ∷ [])
 
--- a = 1, z = −1, T = 1: (1; −2 + i; −i) and (1; −2 − i; i)
+-- a = 1, z = −1, T = 1: (1; −4 + 2i; −i) and (1; −4 − 2i; i)
 abbrev pub case-9 : Row
 case-9 = joins-are (point 1 0) (pair (neg 1) (pos 0)) (point 1 0)
-    (triple (point 1 0) (pair (neg 2) (pos 1)) (pair (pos 0) (neg 1)) ∷ triple (point 1 0) (pair (neg 2) (neg 1)) (point 0 1) ∷ [])
+    (triple (point 1 0) (pair (neg 4) (pos 2)) (pair (pos 0) (neg 1)) ∷ triple (point 1 0) (pair (neg 4) (neg 2)) (point 0 1) ∷ [])
+
+-- the student's curve: κ = 2i, w = 1 − i + (−1 + 2i) t + (2 + i) t²
+abbrev pub student-curve : Row
+student-curve = curve-is (quintic (point 0 0) (point 4 0) (point 5 1) (point 5 4) (point 3 6) (pair (neg 13) (pos 6)))
+    (pre (point 0 2) (w (pair (pos 1) (neg 1)) (pair (neg 1) (pos 2)) (point 2 1)) (pos 4) (q (pos 2) (neg 6) (pos 7) (pos 0) (pos 5)))
+    (legs-are (point 4 0 ∷ point 1 1 ∷ point 0 3 ∷ pair (neg 2) (pos 2) ∷ pair (neg 16) (pos 0) ∷ []) ∷ [])
+
+-- a = 4, z = −16, T = −13 + 6i: (2; −7 − 13i; 4i), and (2; 1 + i; 4i), which is the student's curve
+abbrev pub student-joins : Row
+student-joins = joins-are (point 4 0) (pair (neg 16) (pos 0)) (pair (neg 13) (pos 6))
+    (triple (point 2 0) (pair (neg 7) (neg 13)) (point 0 4) ∷ triple (point 2 0) (point 1 1) (point 0 4) ∷ [])
 
 abbrev pub given : List ℤ → ℕ → ℤ
 given ns k = getD ns k (pos 0)
@@ -113,4 +124,4 @@ case-2-offset = curve-is bend bend-pre
     (given (neg 10 ∷ neg 6 ∷ pos 1 ∷ pos 3 ∷ pos 12 ∷ pos 20 ∷ [])) ∷ [])
 
 abbrev pub table : List Row
-table = case-1 ∷ case-2 ∷ case-3 ∷ case-4 ∷ case-5 ∷ case-6 ∷ case-7 ∷ case-8 ∷ case-9 ∷ case-2-offset ∷ []
+table = case-1 ∷ case-2 ∷ case-3 ∷ case-4 ∷ case-5 ∷ case-6 ∷ case-7 ∷ case-8 ∷ case-9 ∷ student-curve ∷ student-joins ∷ case-2-offset ∷ []

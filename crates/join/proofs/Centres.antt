@@ -1,11 +1,12 @@
--- The middle of a join: with s = 3 (w0 + w2) and m = 3 (a + z − T), the rule of the travel says (4 w1 + s)² = s² − 8 (m + w0 w2).
---   rest                             m
+-- The middle of a join: with s = 3 (w0 + w2), the rule of the travel says that 2 V + s is a root of 24 T − 15 (a + z) + 10 w0 w2.
 --   way                              `travelled` as an expression of the solver
 --   to-square, of-square             the rule as that square, and back
---   quartered-once                   one triple at most has a quarter of n for its middle
---   half-quarters, quarters-half     for a root δ of the discriminant, the middle is a quarter of −δ − s or of δ − s, and the other way
---   quarters-below, ends-below       the order of these two, and of two last roots
---   join-halves, halves-join         for a root r of z, the joins are the triples that end in −r or in r
+--   legs-steps, steps-legs           whole legs have half steps; a curve over T with half steps has whole legs
+--   halved-once                      one triple at most has the half of n for its middle
+--   Signs, signs-centred, centred-signs      for a root δ of D, the middle is the half of −δ − s or of δ − s, and the other way
+--   halves-below, ends-below         the order of these two, and of two last roots
+--   other-end                        the discriminant of the other root of z
+--   ends-join, join-ends             for a root r of z, the joins are the triples that end in −r or in r
 --   at-most-four                     a list of joins is no longer than four
 use mathlib.Core.Path.{_≡_, refl, sym, ap, _∙_, subst}
 use mathlib.Core.List.{List, [], _∷_}
@@ -23,116 +24,134 @@ use Rattle.pair.proofs.Parts.{re-equal, im-equal}
 use Rattle.pair.proofs.Laws.{multiple-cancel}
 use Rattle.pair.proofs.PairSolver.{PairEx, the, _⊞_, _⊟_, _⊠_, _··_, opposite, solve-pairs}
 use Rattle.divisor.proofs.Roots.{square-roots, kept-roots}
-use Rattle.join.specs.Promise.{Triple, travelled, Travels, Join, Below, AllJoins}
-use Rattle.join.specs.Steps.{triple, shift, discriminant, centre, Quartered, Half}
+use Rattle.join.specs.Promise.{Triple, travelled, Travels, QuinticLegs, LegsOf, Join, Below, AllJoins}
+use Rattle.join.specs.Steps.{triple, shift, fixed, discriminant, centre, HalfSteps, Halved, Centred, Ending}
 use Rattle.join.proofs.Order.{triple-equal, Before}
 use Rattle.join.proofs.Few.{sorted-distinct, AtMost, at-most-one, at-most-as, at-most-both, at-most-by}
 
--- what the ends and the travel leave
-abbrev pub rest : Pair → Pair → Pair → Pair
-rest a z T = multiple (pos 3) (minus (plus a z) T)
-
 -- ---- the square, and back
--- the discriminant, with X for three times the travel
-abbrev ruled : Pair → Pair → Pair → Pair → Pair → Pair
-ruled a z w0 w2 X = minus (times (shift w0 w2) (shift w0 w2)) (multiple (pos 8) (plus (minus (multiple (pos 3) (plus a z)) X) (times w0 w2)))
+-- the discriminant, with X for six times the travel
+abbrev ruled : Pair → Pair → Pair → Pair → Pair
+ruled a z p X = plus (minus (multiple (pos 4) X) (multiple (pos 15) (plus a z))) (multiple (pos 10) p)
 
 -- `travelled`, for the solver
 abbrev pub way : PairEx
-way = 3 ·· (the 0 ⊠ the 0) ⊞ (3 ·· (the 0 ⊠ the 1) ⊞ (2 ·· (the 1 ⊠ the 1) ⊞ (the 0 ⊠ the 2 ⊞ (3 ·· (the 1 ⊠ the 2) ⊞ 3 ·· (the 2 ⊠ the 2)))))
+way = 6 ·· (the 0 ⊠ the 0) ⊞ (3 ·· (the 0 ⊠ the 1) ⊞ (the 1 ⊠ the 1 ⊞ (2 ·· (the 0 ⊠ the 2) ⊞ (3 ·· (the 1 ⊠ the 2) ⊞ 6 ·· (the 2 ⊠ the 2)))))
 
-centre-square : (w0 w1 w2 : Pair) → times (centre w0 w1 w2) (centre w0 w1 w2) ≡ ruled (times w0 w0) (times w2 w2) w0 w2 (travelled (triple w0 w1 w2))
-centre-square w0 w1 w2 =
-    let s = 3 ·· (the 0 ⊞ the 2) in
-    let c = 4 ·· the 1 ⊞ s in
-    solve-pairs (w0 ∷ w1 ∷ w2 ∷ []) (c ⊠ c) (s ⊠ s ⊟ 8 ·· (3 ·· (the 0 ⊠ the 0 ⊞ the 2 ⊠ the 2) ⊟ way ⊞ the 0 ⊠ the 2)) tt tt
+centre-square : (w0 v w2 : Pair) → times (centre w0 v w2) (centre w0 v w2) ≡ ruled (times w0 w0) (times w2 w2) (times w0 w2) (travelled (triple w0 v w2))
+centre-square w0 v w2 =
+    let c = 2 ·· the 1 ⊞ 3 ·· (the 0 ⊞ the 2) in
+    solve-pairs (w0 ∷ v ∷ w2 ∷ []) (c ⊠ c) (4 ·· way ⊟ 15 ·· (the 0 ⊠ the 0 ⊞ the 2 ⊠ the 2) ⊞ 10 ·· (the 0 ⊠ the 2)) tt tt
 
-discriminant-is : (a z T w0 w2 : Pair) → discriminant (rest a z T) w0 w2 ≡ ruled a z w0 w2 (multiple (pos 3) T)
-discriminant-is a z T w0 w2 =
-    let s = 3 ·· (the 3 ⊞ the 4) in
-    solve-pairs (a ∷ z ∷ T ∷ w0 ∷ w2 ∷ []) (s ⊠ s ⊟ 8 ·· (3 ·· (the 0 ⊞ the 1 ⊟ the 2) ⊞ the 3 ⊠ the 4)) (s ⊠ s ⊟ 8 ·· (3 ·· (the 0 ⊞ the 1) ⊟ 3 ·· the 2 ⊞ the 3 ⊠ the 4)) tt tt
+discriminant-is : (a z T p : Pair) → discriminant (fixed a z T) p ≡ ruled a z p (multiple (pos 6) T)
+discriminant-is a z T p =
+    solve-pairs (a ∷ z ∷ T ∷ p ∷ []) (24 ·· the 2 ⊟ 15 ·· (the 0 ⊞ the 1) ⊞ 10 ·· the 3) (4 ·· (6 ·· the 2) ⊟ 15 ·· (the 0 ⊞ the 1) ⊞ 10 ·· the 3) tt tt
 
--- X is an eighth of what is left
-ruled-once : (a z w0 w2 X Y : Pair) → ruled a z w0 w2 X ≡ ruled a z w0 w2 Y → X ≡ Y
-ruled-once a z w0 w2 X Y e = multiple-cancel 8 (omega arith) (back X ∙ ap (λ (f : Pair). minus f left) e ∙ sym (back Y))
+-- X is a quarter of what is left
+ruled-once : (a z p X Y : Pair) → ruled a z p X ≡ ruled a z p Y → X ≡ Y
+ruled-once a z p X Y e = multiple-cancel 4 (omega arith) (back X ∙ ap (λ (f : Pair). plus f left) e ∙ sym (back Y))
   where
     left : Pair
-    left = minus (times (shift w0 w2) (shift w0 w2)) (multiple (pos 8) (plus (multiple (pos 3) (plus a z)) (times w0 w2)))
+    left = minus (multiple (pos 15) (plus a z)) (multiple (pos 10) p)
 
-    back : (x : Pair) → multiple (pos 8) x ≡ minus (ruled a z w0 w2 x) left
+    back : (x : Pair) → multiple (pos 4) x ≡ plus (ruled a z p x) left
     back x =
-        let s = 3 ·· (the 2 ⊞ the 3) in
-        let b = 3 ·· (the 0 ⊞ the 1) in
-        let p = the 2 ⊠ the 3 in
-        solve-pairs (a ∷ z ∷ w0 ∷ w2 ∷ x ∷ []) (8 ·· the 4) (s ⊠ s ⊟ 8 ·· (b ⊟ the 4 ⊞ p) ⊟ (s ⊠ s ⊟ 8 ·· (b ⊞ p))) tt tt
+        let b = 15 ·· (the 0 ⊞ the 1) in
+        let q = 10 ·· the 2 in
+        solve-pairs (a ∷ z ∷ p ∷ x ∷ []) (4 ·· the 3) (4 ·· the 3 ⊟ b ⊞ q ⊞ (b ⊟ q)) tt tt
 
-module _ (a z T w0 w1 w2 : Pair) (first : times w0 w0 ≡ a) (last : times w2 w2 ≡ z) where
-  squared : times (centre w0 w1 w2) (centre w0 w1 w2) ≡ ruled a z w0 w2 (travelled (triple w0 w1 w2))
-  squared = centre-square w0 w1 w2 ∙ (λ i. ruled (first i) (last i) w0 w2 (travelled (triple w0 w1 w2)))
+module _ (a z T w0 v w2 : Pair) (first : times w0 w0 ≡ a) (last : times w2 w2 ≡ z) where
+  squared : times (centre w0 v w2) (centre w0 v w2) ≡ ruled a z (times w0 w2) (travelled (triple w0 v w2))
+  squared = centre-square w0 v w2 ∙ (λ i. ruled (first i) (last i) (times w0 w2) (travelled (triple w0 v w2)))
 
-  to-square : Travels (triple w0 w1 w2) T → times (centre w0 w1 w2) (centre w0 w1 w2) ≡ discriminant (rest a z T) w0 w2
-  to-square e = squared ∙ ap (ruled a z w0 w2) (sym e) ∙ sym (discriminant-is a z T w0 w2)
+  to-square : Travels (triple w0 v w2) T → times (centre w0 v w2) (centre w0 v w2) ≡ discriminant (fixed a z T) (times w0 w2)
+  to-square e = squared ∙ ap (ruled a z (times w0 w2)) (sym e) ∙ sym (discriminant-is a z T (times w0 w2))
 
-  of-square : times (centre w0 w1 w2) (centre w0 w1 w2) ≡ discriminant (rest a z T) w0 w2 → Travels (triple w0 w1 w2) T
-  of-square e = ruled-once a z w0 w2 (multiple (pos 3) T) (travelled (triple w0 w1 w2)) (sym (discriminant-is a z T w0 w2) ∙ sym e ∙ squared)
+  of-square : times (centre w0 v w2) (centre w0 v w2) ≡ discriminant (fixed a z T) (times w0 w2) → Travels (triple w0 v w2) T
+  of-square e = ruled-once a z (times w0 w2) (multiple (pos 6) T) (travelled (triple w0 v w2)) (sym (discriminant-is a z T (times w0 w2)) ∙ sym e ∙ squared)
 
--- ---- one quarter: 4 w1 = δ − s says that the centre is δ
+-- ---- whole legs
+pub legs-steps : (w : Triple) (d : QuinticLegs) → LegsOf w d → HalfSteps w
+legs-steps w d h = ((d .d1, h .second), (d .d3, h .fourth))
+
+-- the third leg is what the travel leaves
+pub steps-legs : (w : Triple) (T : Pair) → Travels w T → HalfSteps w → (d : QuinticLegs) × LegsOf w d
+steps-legs w T e ((h, f), (k, g)) = (record { d0 = a; d1 = h; d2 = d2; d3 = k; d4 = z }, record { first = refl; second = f; third = third; fourth = g; fifth = refl })
+  where
+    a : Pair
+    a = times (w .w0) (w .w0)
+
+    z : Pair
+    z = times (w .w2) (w .w2)
+
+    d2 : Pair
+    d2 = minus T (plus (plus a h) (plus k z))
+
+    third : multiple (pos 6) d2 ≡ plus (times (w .v) (w .v)) (multiple (pos 2) (times (w .w0) (w .w2)))
+    third =
+        solve-pairs (a ∷ h ∷ T ∷ k ∷ z ∷ []) (6 ·· (the 2 ⊟ (the 0 ⊞ the 1 ⊞ (the 3 ⊞ the 4)))) (6 ·· the 2 ⊟ (6 ·· the 0 ⊞ 3 ·· (2 ·· the 1) ⊞ (3 ·· (2 ·· the 3) ⊞ 6 ·· the 4))) tt tt
+        ∙ (λ i. minus (e i) (plus (plus (multiple (pos 6) a) (multiple (pos 3) (f i))) (plus (multiple (pos 3) (g i)) (multiple (pos 6) z))))
+        ∙ solve-pairs (w .w0 ∷ w .v ∷ w .w2 ∷ []) (way ⊟ (6 ·· (the 0 ⊠ the 0) ⊞ 3 ·· (the 0 ⊠ the 1) ⊞ (3 ·· (the 1 ⊠ the 2) ⊞ 6 ·· (the 2 ⊠ the 2))))
+        (the 1 ⊠ the 1 ⊞ 2 ·· (the 0 ⊠ the 2)) tt tt
+
+-- ---- one half: 2 V = δ − s says that the centre is δ
 centre-is : (x s δ : Pair) → x ≡ minus δ s → plus x s ≡ δ
 centre-is x s δ e = ap (λ (y : Pair). plus y s) e ∙ solve-pairs (δ ∷ s ∷ []) (the 0 ⊟ the 1 ⊞ the 1) (the 0) tt tt
 
 is-centre : (x s δ : Pair) → plus x s ≡ δ → x ≡ minus δ s
 is-centre x s δ e = solve-pairs (x ∷ s ∷ []) (the 0) (the 0 ⊞ the 1 ⊟ the 1) tt tt ∙ ap (λ (y : Pair). minus y s) e
 
-pub quartered-once : (w0 n w2 : Pair) (u v : Triple) → Quartered w0 n w2 u → Quartered w0 n w2 v → u ≡ v
-quartered-once w0 n w2 u v h k = triple-equal (h .first ∙ sym (k .first)) (multiple-cancel 4 (omega arith) (h .middle ∙ sym (k .middle))) (h .last ∙ sym (k .last))
+pub halved-once : (w0 n w2 : Pair) (u v : Triple) → Halved w0 n w2 u → Halved w0 n w2 v → u ≡ v
+halved-once w0 n w2 u v h k = triple-equal (h .first ∙ sym (k .first)) (multiple-cancel 2 (omega arith) (h .middle ∙ sym (k .middle))) (h .last ∙ sym (k .last))
 
 negative-square : (x : Pair) → times (negative x) (negative x) ≡ times x x
 negative-square x = solve-pairs (x ∷ []) (opposite (the 0) ⊠ opposite (the 0)) (the 0 ⊠ the 0) tt tt
 
 -- ---- the triples with these ends
-module _ (m w0 w2 : Pair) where
-  quarter-half : (δ : Pair) → times δ δ ≡ discriminant m w0 w2 → (w : Triple) → Quartered w0 (minus δ (shift w0 w2)) w2 w → Half m w0 w2 w
-  quarter-half δ square w h = record {
+module _ (w0 D w2 : Pair) where
+  halved-centred : (δ : Pair) → times δ δ ≡ D → (w : Triple) → Halved w0 (minus δ (shift w0 w2)) w2 w → Centred w0 D w2 w
+  halved-centred δ square w h = record {
     first = h .first;
     last = h .last;
-    middle = ap (λ (c : Pair). times c c) (centre-is (multiple (pos 4) (w .w1)) (shift w0 w2) δ (h .middle)) ∙ square;
+    middle = ap (λ (c : Pair). times c c) (centre-is (multiple (pos 2) (w .v)) (shift w0 w2) δ (h .middle)) ∙ square;
+    steps = h .steps;
   }
 
-  half-quarter : (δ : Pair) (w : Triple) → Half m w0 w2 w → centre w0 (w .w1) w2 ≡ δ → Quartered w0 (minus δ (shift w0 w2)) w2 w
-  half-quarter δ w h e = record { first = h .first; last = h .last; middle = is-centre (multiple (pos 4) (w .w1)) (shift w0 w2) δ e }
+  centred-halved : (δ : Pair) (w : Triple) → Centred w0 D w2 w → centre w0 (w .v) w2 ≡ δ → Halved w0 (minus δ (shift w0 w2)) w2 w
+  centred-halved δ w h e = record { first = h .first; last = h .last; middle = is-centre (multiple (pos 2) (w .v)) (shift w0 w2) δ e; steps = h .steps }
 
-  module _ (δ : Pair) (square : times δ δ ≡ discriminant m w0 w2) where
-    abbrev pub Quarters : Triple → Type 0
-    Quarters w = Quartered w0 (minus (negative δ) (shift w0 w2)) w2 w ⊎ Quartered w0 (minus δ (shift w0 w2)) w2 w
+  module _ (δ : Pair) (square : times δ δ ≡ D) where
+    abbrev pub Signs : Triple → Type 0
+    Signs w = Halved w0 (minus (negative δ) (shift w0 w2)) w2 w ⊎ Halved w0 (minus δ (shift w0 w2)) w2 w
 
-    pub quarters-half : (w : Triple) → Quarters w → Half m w0 w2 w
-    quarters-half w = ⊎-elim (quarter-half (negative δ) (negative-square δ ∙ square) w) (quarter-half δ square w)
+    pub signs-centred : (w : Triple) → Signs w → Centred w0 D w2 w
+    signs-centred w = ⊎-elim (halved-centred (negative δ) (negative-square δ ∙ square) w) (halved-centred δ square w)
 
-    pub half-quarters : (w : Triple) → Half m w0 w2 w → Quarters w
-    half-quarters w h =
-        ⊎-elim (λ e. inr (half-quarter δ w h e)) (λ e. inl (half-quarter (negative δ) w h e)) (square-roots (centre w0 (w .w1) w2) δ (h .middle ∙ sym square))
+    pub centred-signs : (w : Triple) → Centred w0 D w2 w → Signs w
+    centred-signs w h =
+        ⊎-elim (λ e. inr (centred-halved δ w h e)) (λ e. inl (centred-halved (negative δ) w h e)) (square-roots (centre w0 (w .v) w2) δ (h .middle ∙ sym square))
 
-  at-most-two : AtMost 2 (Half m w0 w2)
-  at-most-two = at-most-by (λ u h. let δ = centre w0 (u .w1) w2 in at-most-as (half-quarters δ (h .middle)) (at-most-both (at-most-one (quartered-once w0 _ w2)) (at-most-one (quartered-once w0 _ w2))))
+  at-most-two : AtMost 2 (Centred w0 D w2)
+  at-most-two = at-most-by (λ u h. let δ = centre w0 (u .v) w2 in at-most-as (centred-signs δ (h .middle)) (at-most-both (at-most-one (halved-once w0 _ w2)) (at-most-one (halved-once w0 _ w2))))
 
 -- ---- the order
-lower : (x y c d : ℤ) → pos 4 *ℤ x ≡ negℤ d -ℤ c → pos 4 *ℤ y ≡ d -ℤ c → pos 0 <ℤ d → x <ℤ y
-lower x y c d e f h = omega (linear, times-parts (pos 4) x, times-parts (pos 4) y, minus-parts (negℤ d) c, minus-parts d c, negative-parts d)
+lower : (x y c d : ℤ) → pos 2 *ℤ x ≡ negℤ d -ℤ c → pos 2 *ℤ y ≡ d -ℤ c → pos 0 <ℤ d → x <ℤ y
+lower x y c d e f h = omega (linear, times-parts (pos 2) x, times-parts (pos 2) y, minus-parts (negℤ d) c, minus-parts d c, negative-parts d)
 
-level : (x y c d : ℤ) → pos 4 *ℤ x ≡ negℤ d -ℤ c → pos 4 *ℤ y ≡ d -ℤ c → d ≡ pos 0 → x ≡ y
-level x y c d e f h = omega (linear, times-parts (pos 4) x, times-parts (pos 4) y, minus-parts (negℤ d) c, minus-parts d c, negative-parts d)
+level : (x y c d : ℤ) → pos 2 *ℤ x ≡ negℤ d -ℤ c → pos 2 *ℤ y ≡ d -ℤ c → d ≡ pos 0 → x ≡ y
+level x y c d e f h = omega (linear, times-parts (pos 2) x, times-parts (pos 2) y, minus-parts (negℤ d) c, minus-parts d c, negative-parts d)
 
-pub quarters-below : (w0 w2 s δ : Pair) → FirstPositive (δ .re) (δ .im) → (u v : Triple) → Quartered w0 (minus (negative δ) s) w2 u → Quartered w0 (minus δ s) w2 v → Before u v
-quarters-below w0 w2 s δ p u v h k = inr (re-equal ends, inr (im-equal ends, by p))
+pub halves-below : (w0 w2 s δ : Pair) → FirstPositive (δ .re) (δ .im) → (u v : Triple) → Halved w0 (minus (negative δ) s) w2 u → Halved w0 (minus δ s) w2 v → Before u v
+halves-below w0 w2 s δ p u v h k = inr (re-equal ends, inr (im-equal ends, by p))
   where
     ends : u .w2 ≡ v .w2
     ends = h .last ∙ sym (k .last)
 
-    by : FirstPositive (δ .re) (δ .im) → Below (u .w1 .re ∷ u .w1 .im ∷ []) (v .w1 .re ∷ v .w1 .im ∷ [])
-    by (inl l) = inl (lower (u .w1 .re) (v .w1 .re) (s .re) (δ .re) (re-equal (h .middle)) (re-equal (k .middle)) l)
+    by : FirstPositive (δ .re) (δ .im) → Below (u .v .re ∷ u .v .im ∷ []) (v .v .re ∷ v .v .im ∷ [])
+    by (inl l) = inl (lower (u .v .re) (v .v .re) (s .re) (δ .re) (re-equal (h .middle)) (re-equal (k .middle)) l)
     by (inr (e, l)) = inr (
-      level (u .w1 .re) (v .w1 .re) (s .re) (δ .re) (re-equal (h .middle)) (re-equal (k .middle)) e,
-      inl (lower (u .w1 .im) (v .w1 .im) (s .im) (δ .im) (im-equal (h .middle)) (im-equal (k .middle)) l),
+      level (u .v .re) (v .v .re) (s .re) (δ .re) (re-equal (h .middle)) (re-equal (k .middle)) e,
+      inl (lower (u .v .im) (v .v .im) (s .im) (δ .im) (im-equal (h .middle)) (im-equal (k .middle)) l),
     )
 
 pub ends-below : (r : Pair) → FirstPositive (r .re) (r .im) → (u v : Triple) → u .w2 ≡ negative r → v .w2 ≡ r → Before u v
@@ -146,36 +165,47 @@ ends-below r p u v e f = by p
     by (inr (z, l)) = inr (re-equal e ∙ ap negℤ z ∙ sym (re-equal f ∙ z), inl (under (u .w2 .im) (v .w2 .im) (r .im) (im-equal e) (im-equal f) l))
 
 -- ---- the joins
+-- w2 and −w2 have one discriminant but for the sign of its product
+pub other-end : (f w0 r : Pair) → discriminant f (times w0 (negative r)) ≡ minus f (multiple (pos 10) (times w0 r))
+other-end f w0 r = solve-pairs (f ∷ w0 ∷ r ∷ []) (the 0 ⊞ 10 ·· (the 1 ⊠ opposite (the 2))) (the 0 ⊟ 10 ·· (the 1 ⊠ the 2)) tt tt
+
 module _ (a z T w0 : Pair) (first : times w0 w0 ≡ a) (kept : FirstPositive (w0 .re) (w0 .im)) where
   same-first : (w : Triple) → Join a z T w → w .w0 ≡ w0
   same-first w j = kept-roots (w .w0) w0 (j .kept) kept (j .first ∙ sym first)
 
-  join-half : (w2 : Pair) → times w2 w2 ≡ z → (w : Triple) → Join a z T w → w .w2 ≡ w2 → Half (rest a z T) w0 w2 w
-  join-half w2 last w j e = record {
+  abbrev To : Pair → Triple → Type 0
+  To w2 = Centred w0 (discriminant (fixed a z T) (times w0 w2)) w2
+
+  join-to : (w2 : Pair) → times w2 w2 ≡ z → (w : Triple) → Join a z T w → w .w2 ≡ w2 → To w2 w
+  join-to w2 last w j e = record {
     first = same-first w j;
     last = e;
-    middle = to-square a z T w0 (w .w1) w2 first last (subst (λ (u : Triple). Travels u T) (triple-equal {v = triple w0 (w .w1) w2} (same-first w j) refl e) (j .travel));
+    middle = to-square a z T w0 (w .v) w2 first last (subst (λ (u : Triple). Travels u T) (triple-equal {v = triple w0 (w .v) w2} (same-first w j) refl e) (j .travel));
+    steps = legs-steps w (j .legs .0) (j .legs .1);
   }
 
-  half-join : (w2 : Pair) → times w2 w2 ≡ z → (w : Triple) → Half (rest a z T) w0 w2 w → Join a z T w
-  half-join w2 last w h = subst (Join a z T) (sym (triple-equal (h .first) refl (h .last)))
-      (record { first = first; last = last; travel = of-square a z T w0 (w .w1) w2 first last (h .middle); kept = kept })
+  to-join : (w2 : Pair) → times w2 w2 ≡ z → (w : Triple) → To w2 w → Join a z T w
+  to-join w2 last w h = record {
+    first = ap (λ (x : Pair). times x x) (h .first) ∙ first;
+    last = ap (λ (x : Pair). times x x) (h .last) ∙ last;
+    travel = travel;
+    legs = steps-legs w T travel (h .steps);
+    kept = subst (λ (x : Pair). FirstPositive (x .re) (x .im)) (sym (h .first)) kept;
+  }
+    where
+      travel : Travels w T
+      travel = subst (λ (u : Triple). Travels u T) (sym (triple-equal {v = triple w0 (w .v) w2} (h .first) refl (h .last))) (of-square a z T w0 (w .v) w2 first last (h .middle))
 
   module _ (r : Pair) (last : times r r ≡ z) where
-    abbrev pub Halves : Triple → Type 0
-    Halves w = Half (rest a z T) w0 (negative r) w ⊎ Half (rest a z T) w0 r w
+    pub ends-join : (w : Triple) → Ending w0 (fixed a z T) r w → Join a z T w
+    ends-join w = ⊎-elim (to-join (negative r) (negative-square r ∙ last) w) (to-join r last w)
 
-    pub halves-join : (w : Triple) → Halves w → Join a z T w
-    halves-join w = ⊎-elim (half-join (negative r) (negative-square r ∙ last) w) (half-join r last w)
-
-    pub join-halves : (w : Triple) → Join a z T w → Halves w
-    join-halves w j =
-        ⊎-elim (λ e. inr (join-half r last w j e)) (λ e. inl (join-half (negative r) (negative-square r ∙ last) w j e)) (square-roots (w .w2) r (j .last ∙ sym last))
+    pub join-ends : (w : Triple) → Join a z T w → Ending w0 (fixed a z T) r w
+    join-ends w j =
+        ⊎-elim (λ e. inr (join-to r last w j e)) (λ e. inl (join-to (negative r) (negative-square r ∙ last) w j e)) (square-roots (w .w2) r (j .last ∙ sym last))
 
 pub at-most-four : {a z T : Pair} {ws : List Triple} → AllJoins a z T ws → length ws ≤ 4
 at-most-four {a} {z} {T} {ws} l = four ws (sorted-distinct ws (l .sorted)) (l .nothing-else)
   where
     four : AtMost 4 (Join a z T)
-    four = at-most-by (λ u j.
-        at-most-as (join-halves a z T (u .w0) (j .first) (j .kept) (u .w2) (j .last))
-        (at-most-both (at-most-two (rest a z T) (u .w0) (negative (u .w2))) (at-most-two (rest a z T) (u .w0) (u .w2))))
+    four = at-most-by (λ u j. at-most-as (join-ends a z T (u .w0) (j .first) (j .kept) (u .w2) (j .last)) (at-most-both (at-most-two (u .w0) _ _) (at-most-two (u .w0) _ _)))

@@ -1,13 +1,13 @@
--- The joins as curves: the list holds each quintic from a to z over T whose leg polynomial is the square of a quadratic with whole Bernstein
--- coefficients, once.
---   squares-legs        five legs are those of the square of w exactly when three times each is what w makes
+-- The joins as curves: the list holds each quintic with whole legs from a to z over T whose leg polynomial is the square of a quadratic with
+-- fractional complex coefficients, once.
 --   legs-decide         two kept triples with the same legs are equal
 --   some-leg-differs    so two different triples of the list differ in a leg
---   traced-once         legs from a to z over T whose leg polynomial is such a square are those of one triple of the list, and of no other
---   each-traces         every triple of the list has such legs
-use mathlib.Core.Path.{_≡_, refl, sym, ap, ap₂, _∙_}
-use mathlib.Core.List.{List, [], _∷_, map}
-use mathlib.Core.Logic.{_≢_, ⊎-elim, _↔_}
+--   legs-travel         the legs of a triple go over T exactly where it travels over T
+--   listed-once         such a quintic has the legs of one triple of the list, and of no other
+--   each-connects          every triple of the list has whole legs from a to z over T, and they are such a quintic
+use mathlib.Core.Path.{_≡_, refl, sym, ap, ap₂, _∙_, subst}
+use mathlib.Core.List.{List, [], _∷_}
+use mathlib.Core.Logic.{_≢_, _↔_, ⊎-elim}
 use Prim.Native.Nat.{ℕ, zero, suc}
 use native.Mathlib.Omega.{arith}
 use lib.IntN.{pos}
@@ -19,41 +19,32 @@ use Rattle.poly.proofs.Domain.{times-cancel}
 use Rattle.pair.specs.declared.Pair.{Pair}
 use Rattle.pair.specs.Pairs.{pairs, plus, minus, negative, times, multiple}
 use Rattle.pair.proofs.Laws.{pairs-ring, pairs-domain, multiple-cancel, pair-zero?}
-use Rattle.pair.proofs.PairSolver.{the, _⊞_, _⊟_, _⊠_, _··_, opposite, nought, solve-pairs}
+use Rattle.pair.proofs.PairSolver.{the, _⊞_, _⊠_, _··_, opposite, nought, solve-pairs}
 use Rattle.divisor.proofs.Roots.{first-some, first-found, kept-roots}
-use Rattle.curve.proofs.SquaredLegs.{t0, t1, t2, t3, t4, quintic-legs}
-use Rattle.join.specs.Promise.{Triple, travelled, Join, Member, AllJoins}
-use Rattle.join.specs.Curves.{QuinticLegs, legList, travelOf, tripled, Squares, Traces, TracedOnce}
+use Rattle.join.specs.Promise.{Triple, travelled, Travels, QuinticLegs, LegsOf, Member, AllJoins}
+use Rattle.join.specs.Curves.{legList, travelOf, Connects, FractionalSquare, TracedOnce}
 use Rattle.join.specs.Steps.{triple}
 use Rattle.join.proofs.Order.{triple-equal}
 use Rattle.join.proofs.Centres.{way}
-
-abbrev pairsOf : Triple → List Pair
-pairsOf w = w .w0 ∷ w .w1 ∷ w .w2 ∷ []
-
-pub squares-legs : (w : Triple) (d : QuinticLegs) → Squares w d ↔ (map (multiple (pos 3)) (legList d) ≡ tripled w)
-squares-legs w d = quintic-legs (w .w0) (w .w1) (w .w2) (d .d0) (d .d1) (d .d2) (d .d3) (d .d4)
+use Rattle.join.proofs.Fractions.{over-two, fractional-legs}
 
 -- ---- the legs decide a kept triple
-pub legs-decide : (u v : Triple) → FirstPositive (u .w0 .re) (u .w0 .im) → FirstPositive (v .w0 .re) (v .w0 .im) → tripled u ≡ tripled v → u ≡ v
-legs-decide u v h k e = triple-equal e0 e1 e2
+pub legs-decide : (u v : Triple) (d : QuinticLegs) → FirstPositive (u .w0 .re) (u .w0 .im) → FirstPositive (v .w0 .re) (v .w0 .im) → LegsOf u d → LegsOf v d → u ≡ v
+legs-decide u v d h k f g = triple-equal e0 e1 e2
   where
-    leg : (i : ℕ) → at pairs (tripled u) i ≡ at pairs (tripled v) i
-    leg i = ap (λ (l : List Pair). at pairs l i) e
-
     e0 : u .w0 ≡ v .w0
-    e0 = kept-roots (u .w0) (v .w0) h k (multiple-cancel 3 (omega arith) (leg 0))
+    e0 = kept-roots (u .w0) (v .w0) h k (sym (f .first) ∙ g .first)
 
     -- a product with w0 decides the other factor
     over : (a b : Pair) → times (u .w0) a ≡ times (v .w0) b → a ≡ b
-    over a b f = times-cancel pairs-ring pairs-domain (u .w0) a b (first-some h) (f ∙ ap (λ (x : Pair). times x b) (sym e0))
+    over a b e = times-cancel pairs-ring pairs-domain (u .w0) a b (first-some h) (e ∙ ap (λ (x : Pair). times x b) (sym e0))
 
-    e1 : u .w1 ≡ v .w1
-    e1 = over (u .w1) (v .w1) (multiple-cancel 3 (omega arith) (leg 1))
+    e1 : u .v ≡ v .v
+    e1 = over (u .v) (v .v) (sym (f .second) ∙ g .second)
 
     e2 : u .w2 ≡ v .w2
-    e2 = over (u .w2) (v .w2) (plus-cancel pairs-ring (multiple (pos 2) (times (u .w1) (u .w1)))
-        (leg 2 ∙ ap (λ (x : Pair). plus (multiple (pos 2) (times x x)) (times (v .w0) (v .w2))) (sym e1)))
+    e2 = over (u .w2) (v .w2) (multiple-cancel 2 (omega arith) (plus-cancel pairs-ring (times (u .v) (u .v))
+        (sym (f .third) ∙ g .third ∙ ap (λ (x : Pair). plus (times x x) (multiple (pos 2) (times (v .w0) (v .w2)))) (sym e1))))
 
 -- two lists that are not equal differ at a place
 differ : (xs ys : List Pair) → length xs ≡ length ys → xs ≢ ys → (k : ℕ) × (at pairs xs k ≢ at pairs ys k)
@@ -69,103 +60,74 @@ differ (x ∷ xs) (y ∷ ys) l n = by (pair-zero? (minus x y)) (differ xs ys (om
         (suc k, h)
     by (no z) f = (zero, λ e. z (ap (λ (t : Pair). minus t y) e ∙ pairs-ring .plus-negative y))
 
+legs-same : (d e : QuinticLegs) → legList d ≡ legList e → d ≡ e
+legs-same d e h = λ i. record { d0 = at pairs (h i) 0; d1 = at pairs (h i) 1; d2 = at pairs (h i) 2; d3 = at pairs (h i) 3; d4 = at pairs (h i) 4 }
+
 pub some-leg-differs : {a z T : Pair} {ws : List Triple} → AllJoins a z T ws → (u v : Triple) → Member u ws → Member v ws → u ≢ v
-    → (k : ℕ) × (at pairs (tripled u) k ≢ at pairs (tripled v) k)
-some-leg-differs all u v m n d = differ (tripled u) (tripled v) refl (λ e. d (legs-decide u v (all .nothing-else u m .kept) (all .nothing-else v n .kept) e))
+    → (d e : QuinticLegs) → LegsOf u d → LegsOf v e → (k : ℕ) × (at pairs (legList d) k ≢ at pairs (legList e) k)
+some-leg-differs all u v m n apart d e f g =
+    differ (legList d) (legList e) refl
+    (λ h. apart (legs-decide u v e (all .nothing-else u m .kept) (all .nothing-else v n .kept) (subst (LegsOf u) (legs-same d e h) f) g))
+
+-- ---- six times the sum of the legs
+sixfold : (w : Triple) (d : QuinticLegs) → LegsOf w d → multiple (pos 6) (travelOf (legList d)) ≡ travelled w
+sixfold w d h =
+    solve-pairs (legList d) (6 ·· (the 0 ⊞ (the 1 ⊞ (the 2 ⊞ (the 3 ⊞ (the 4 ⊞ nought))))))
+    (6 ·· the 0 ⊞ (3 ·· (2 ·· the 1) ⊞ (6 ·· the 2 ⊞ (3 ·· (2 ·· the 3) ⊞ 6 ·· the 4)))) tt tt
+    ∙ (λ i. plus (multiple (pos 6) (h .first i)) (plus (multiple (pos 3) (h .second i)) (plus (h .third i) (plus (multiple (pos 3) (h .fourth i)) (multiple (pos 6) (h .fifth i))))))
+    ∙ solve-pairs (w .w0 ∷ w .v ∷ w .w2 ∷ [])
+    (6 ·· (the 0 ⊠ the 0) ⊞ (3 ·· (the 0 ⊠ the 1) ⊞ (the 1 ⊠ the 1 ⊞ 2 ·· (the 0 ⊠ the 2) ⊞ (3 ·· (the 1 ⊠ the 2) ⊞ 6 ·· (the 2 ⊠ the 2))))) way tt tt
+
+pub legs-travel : (w : Triple) (d : QuinticLegs) (T : Pair) → LegsOf w d → (travelOf (legList d) ≡ T) ↔ Travels w T
+legs-travel w d T h = (λ e. ap (multiple (pos 6)) (sym e) ∙ sixfold w d h, λ e. multiple-cancel 6 (omega arith) (sixfold w d h ∙ sym e))
 
 -- ---- a triple and its negative have the same legs
 opposed : Triple → Triple
-opposed w = triple (negative (w .w0)) (negative (w .w1)) (negative (w .w2))
+opposed w = triple (negative (w .w0)) (negative (w .v)) (negative (w .w2))
 
-tripled-opposed : (w : Triple) → tripled (opposed w) ≡ tripled w
+opposed-legs : (w : Triple) (d : QuinticLegs) → LegsOf w d → LegsOf (opposed w) d
 unfolding opposed
-tripled-opposed w =
-    let s = solve-pairs (pairsOf w) in
-    let a = opposite (the 0) in
-    let b = opposite (the 1) in
-    let c = opposite (the 2) in
-    λ i.
-    s (3 ·· (a ⊠ a)) t0 tt tt i ∷ s (3 ·· (a ⊠ b)) t1 tt tt i ∷ s (2 ·· (b ⊠ b) ⊞ a ⊠ c) t2 tt tt i ∷ s (3 ·· (b ⊠ c)) t3 tt tt i ∷ s (3 ·· (c ⊠ c)) t4 tt tt i ∷ []
+opposed-legs w d h = record {
+  first = h .first ∙ both (w .w0) (w .w0);
+  second = h .second ∙ both (w .w0) (w .v);
+  third = h .third ∙ ap₂ (λ (x y : Pair). plus x (multiple (pos 2) y)) (both (w .v) (w .v)) (both (w .w0) (w .w2));
+  fourth = h .fourth ∙ both (w .v) (w .w2);
+  fifth = h .fifth ∙ both (w .w2) (w .w2);
+}
+  where
+    both : (x y : Pair) → times x y ≡ times (negative x) (negative y)
+    both x y = solve-pairs (x ∷ y ∷ []) (the 0 ⊠ the 1) (opposite (the 0) ⊠ opposite (the 1)) tt tt
 
 -- ---- legs from a to z over T
-module _ (a z T : Pair) where
-  -- a kept triple with such legs is a join
-  traced-join : (w : Triple) (d : QuinticLegs) → Traces a z T w d → FirstPositive (w .w0 .re) (w .w0 .im) → Join a z T w
-  traced-join w d h k = record {
-    first = sym (multiple-cancel 3 (omega arith) (leg 0)) ∙ h .first;
-    last = sym (multiple-cancel 3 (omega arith) (leg 4)) ∙ h .last;
-    travel = ap (multiple (pos 3)) (sym (h .travel)) ∙ spread ∙ ap travelOf legs ∙ gathered;
-    kept = k;
-  }
-    where
-      legs : map (multiple (pos 3)) (legList d) ≡ tripled w
-      legs = squares-legs w d .0 (h .squares)
-
-      leg : (i : ℕ) → at pairs (map (multiple (pos 3)) (legList d)) i ≡ at pairs (tripled w) i
-      leg i = ap (λ (l : List Pair). at pairs l i) legs
-
-      spread : multiple (pos 3) (travelOf (legList d)) ≡ travelOf (map (multiple (pos 3)) (legList d))
-      spread = solve-pairs (legList d) (3 ·· (the 0 ⊞ (the 1 ⊞ (the 2 ⊞ (the 3 ⊞ (the 4 ⊞ nought))))))
-          (3 ·· the 0 ⊞ (3 ·· the 1 ⊞ (3 ·· the 2 ⊞ (3 ·· the 3 ⊞ (3 ·· the 4 ⊞ nought))))) tt tt
-
-      gathered : travelOf (tripled w) ≡ travelled w
-      gathered = solve-pairs (pairsOf w) (t0 ⊞ (t1 ⊞ (t2 ⊞ (t3 ⊞ (t4 ⊞ nought))))) way tt tt
-
-  module _ (ws : List Triple) (all : AllJoins a z T ws) where
-    kept-once : (w : Triple) (d : QuinticLegs) → Traces a z T w d → FirstPositive (w .w0 .re) (w .w0 .im) → TracedOnce a z T ws d
-    kept-once w d h k = record {
-      triple = w;
-      member = all .every w (traced-join w d h k);
-      traces = h;
-      no-other = λ v m g. legs-decide v w (all .nothing-else v m .kept) k (sym (squares-legs v d .0 (g .squares)) ∙ squares-legs w d .0 (h .squares));
-    }
-
-    pub traced-once : a ≢ pairs .none → (u : Triple) (d : QuinticLegs) → Traces a z T u d → TracedOnce a z T ws d
-    unfolding opposed
-    traced-once some u d h = ⊎-elim (kept-once u d h) (kept-once (opposed u) d other) (first-found (u .w0) u-some)
-      where
-        u-some : u .w0 ≢ pairs .none
-        u-some e = some (sym (h .first) ∙ multiple-cancel 3 (omega arith) (ap (λ (l : List Pair). at pairs l 0) (squares-legs u d .0 (h .squares))) ∙ ap (λ (x : Pair). times x x) e)
-
-        other : Traces a z T (opposed u) d
-        other = record {
-          first = h .first;
-          last = h .last;
-          travel = h .travel;
-          squares = squares-legs (opposed u) d .1 (squares-legs u d .0 (h .squares) ∙ sym (tripled-opposed u));
-        }
-
-  -- the middle leg is what the travel leaves, and three times it is whole by the rule
-  legsOf : Triple → QuinticLegs
-  legsOf w = record {
-    d0 = a;
-    d1 = times (w .w0) (w .w1);
-    d2 = minus T (plus (plus a (times (w .w0) (w .w1))) (plus (times (w .w1) (w .w2)) z));
-    d3 = times (w .w1) (w .w2);
-    d4 = z;
+module _ (a z T : Pair) (ws : List Triple) (all : AllJoins a z T ws) where
+  -- a kept triple with such legs is in the list, and no other has them
+  kept-once : (w : Triple) (d : QuinticLegs) → Connects a z T d → LegsOf w d → FirstPositive (w .w0 .re) (w .w0 .im) → TracedOnce ws d
+  kept-once w d h l k = record {
+    triple = w;
+    member = all .every w (record { first = sym (l .first) ∙ h .first; last = sym (l .fifth) ∙ h .last; travel = legs-travel w d T l .0 (h .travel); legs = (d, l); kept = k });
+    legs = l;
+    no-other = λ v m g. legs-decide v w d (all .nothing-else v m .kept) k g l;
   }
 
-  pub each-traces : (ws : List Triple) → AllJoins a z T ws → (w : Triple) → Member w ws → (d : QuinticLegs) × Traces a z T w d
-  unfolding legsOf
-  each-traces ws all w m = (legsOf w, record { first = refl; last = refl; travel = whole; squares = squares-legs w (legsOf w) .1 legs })
+  pub listed-once : a ≢ pairs .none → (d : QuinticLegs) → Connects a z T d → FractionalSquare d → TracedOnce ws d
+  unfolding opposed
+  listed-once some d h f = ⊎-elim (kept-once w d h l) (kept-once (opposed w) d h (opposed-legs w d l)) (first-found (w .w0) w-some)
     where
-      j : Join a z T w
-      j = all .nothing-else w m
+      w : Triple
+      w = fractional-legs d f .0
 
-      p : Pair
-      p = times (w .w0) (w .w1)
+      l : LegsOf w d
+      l = fractional-legs d f .1
 
-      q : Pair
-      q = times (w .w1) (w .w2)
+      w-some : w .w0 ≢ pairs .none
+      w-some e = some (sym (h .first) ∙ l .first ∙ ap (λ (x : Pair). times x x) e)
 
-      whole : travelOf (legList (legsOf w)) ≡ T
-      whole = solve-pairs (a ∷ p ∷ T ∷ q ∷ z ∷ []) (the 0 ⊞ (the 1 ⊞ (the 2 ⊟ (the 0 ⊞ the 1 ⊞ (the 3 ⊞ the 4)) ⊞ (the 3 ⊞ (the 4 ⊞ nought))))) (the 2) tt tt
-
-      middle : multiple (pos 3) (minus T (plus (plus a p) (plus q z))) ≡ plus (multiple (pos 2) (times (w .w1) (w .w1))) (times (w .w0) (w .w2))
-      middle =
-          solve-pairs (a ∷ p ∷ T ∷ q ∷ z ∷ []) (3 ·· (the 2 ⊟ (the 0 ⊞ the 1 ⊞ (the 3 ⊞ the 4)))) (3 ·· the 2 ⊟ 3 ·· (the 0 ⊞ the 1 ⊞ (the 3 ⊞ the 4))) tt tt
-          ∙ (λ i. minus (j .travel i) (multiple (pos 3) (plus (plus (sym (j .first) i) p) (plus q (sym (j .last) i)))))
-          ∙ solve-pairs (pairsOf w) (way ⊟ 3 ·· (the 0 ⊠ the 0 ⊞ the 0 ⊠ the 1 ⊞ (the 1 ⊠ the 2 ⊞ the 2 ⊠ the 2))) t2 tt tt
-
-      legs : map (multiple (pos 3)) (legList (legsOf w)) ≡ tripled w
-      legs = λ i. multiple (pos 3) (sym (j .first) i) ∷ multiple (pos 3) p ∷ middle i ∷ multiple (pos 3) q ∷ multiple (pos 3) (sym (j .last) i) ∷ []
+  pub each-connects : (w : Triple) → Member w ws → (d : QuinticLegs) × LegsOf w d × Connects a z T d × FractionalSquare d
+  each-connects w m =
+      let j = all .nothing-else w m in
+      let (d, l) = j .legs in (
+        d,
+        l,
+        record { first = l .first ∙ j .first; last = l .fifth ∙ j .last; travel = legs-travel w d T l .1 (j .travel) },
+        record { s = 2; positive = omega arith; u0 = multiple (pos 2) (w .w0); u1 = w .v; u2 = multiple (pos 2) (w .w2); square = over-two w d l },
+      )

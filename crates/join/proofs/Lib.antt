@@ -5,4 +5,5 @@ pub mod Centres
 pub mod Sizes
 pub mod Writing
 pub mod Once
+pub mod Fractions
 pub mod Curves

@@ -13,8 +13,8 @@ use lib.IntN.{ℤ}
 use Rattle.whole.proofs.Linear.{linear}
 use Rattle.join.specs.Promise.{Triple, Below, key, Sorted, Member, Lists}
 
-pub triple-equal : {u v : Triple} → u .w0 ≡ v .w0 → u .w1 ≡ v .w1 → u .w2 ≡ v .w2 → u ≡ v
-triple-equal p q r = λ i. record { w0 = p i; w1 = q i; w2 = r i }
+pub triple-equal : {u v : Triple} → u .w0 ≡ v .w0 → u .v ≡ v .v → u .w2 ≡ v .w2 → u ≡ v
+triple-equal p q r = λ i. record { w0 = p i; v = q i; w2 = r i }
 
 -- ---- the order
 pub irreflexive : (xs : List ℤ) → Below xs xs → ⊥

@@ -26,7 +26,7 @@ numbers-length (w ∷ ws) = omega (arith, numbers-length ws)
 numbers-append : (us vs : List Triple) → numbers (us ++ vs) ≡ numbers us ++ numbers vs
 unfolding numbers
 numbers-append [] vs = refl
-numbers-append (u ∷ us) vs = ap (λ (l : List ℤ). u .w0 .re ∷ u .w0 .im ∷ u .w1 .re ∷ u .w1 .im ∷ u .w2 .re ∷ u .w2 .im ∷ l) (numbers-append us vs)
+numbers-append (u ∷ us) vs = ap (λ (l : List ℤ). u .w0 .re ∷ u .w0 .im ∷ u .v .re ∷ u .v .im ∷ u .w2 .re ∷ u .w2 .im ∷ l) (numbers-append us vs)
 
 -- ---- what is written
 module _ {n : ℕ} {P : Triple → Type 0} {place : ℕ} {area : List ℤ} where

@@ -1,25 +1,16 @@
--- The curves of the triples, by their legs.
---   QuinticLegs, legList     the five legs of a quintic
---   travelOf                 the sum of a list of pairs
---   tripled w                three times each leg that w makes
---   Squares w d              the leg polynomial of the legs is the square of the quadratic with Bernstein coefficients w0, w1, w2
---   Traces a z T w d         besides, the legs go from a to z over the travel T
---   TracedOnce a z T ws d    one triple of the list traces these legs, and no other does
+-- The curves of the triples, by their legs: what demand 3 says.
+--   legList, travelOf          the legs as a list; the sum of a list of pairs
+--   Connects a z T d           the legs go from a to z over the travel T
+--   SquareOver s u0 u1 u2 d    over s the leg polynomial is the square of the quadratic with Bernstein coefficients u0, u1, u2
+--   FractionalSquare d         it is the square of a quadratic with fractional complex coefficients
+--   TracedOnce ws d            one triple of the list has these legs, and no other does
 use mathlib.Core.Path.{_≡_}
 use mathlib.Core.List.{List, [], _∷_}
+use Prim.Native.Nat.{ℕ, _*_, _<_}
 use lib.IntN.{pos}
-use Rattle.poly.specs.Polynomials.{Same, square}
 use Rattle.pair.specs.declared.Pair.{Pair}
 use Rattle.pair.specs.Pairs.{pairs, plus, times, multiple}
-use Rattle.bernstein.specs.Powers.{powerForm}
-use Rattle.join.specs.Promise.{Triple, Member}
-
-pub record QuinticLegs : Type 0 where
-  pub d0 : Pair
-  pub d1 : Pair
-  pub d2 : Pair
-  pub d3 : Pair
-  pub d4 : Pair
+use Rattle.join.specs.Promise.{Triple, QuinticLegs, LegsOf, Member}
 
 abbrev pub legList : QuinticLegs → List Pair
 legList d = d .d0 ∷ d .d1 ∷ d .d2 ∷ d .d3 ∷ d .d4 ∷ []
@@ -28,25 +19,29 @@ abbrev pub travelOf : List Pair → Pair
 travelOf [] = pairs .none
 travelOf (d ∷ ds) = plus d (travelOf ds)
 
-abbrev pub tripled : Triple → List Pair
-tripled w =
-    multiple (pos 3) (times (w .w0) (w .w0)) ∷
-    multiple (pos 3) (times (w .w0) (w .w1)) ∷
-    plus (multiple (pos 2) (times (w .w1) (w .w1))) (times (w .w0) (w .w2)) ∷
-    multiple (pos 3) (times (w .w1) (w .w2)) ∷
-    multiple (pos 3) (times (w .w2) (w .w2)) ∷ []
-
-abbrev pub Squares : Triple → QuinticLegs → Type 0
-Squares w d = Same pairs (powerForm (legList d)) (square pairs (powerForm (w .w0 ∷ w .w1 ∷ w .w2 ∷ [])))
-
-pub record Traces (a z T : Pair) (w : Triple) (d : QuinticLegs) : Type 0 where
+pub record Connects (a z T : Pair) (d : QuinticLegs) : Type 0 where
   pub first : d .d0 ≡ a
   pub last : d .d4 ≡ z
   pub travel : travelOf (legList d) ≡ T
-  pub squares : Squares w d
 
-pub record TracedOnce (a z T : Pair) (ws : List Triple) (d : QuinticLegs) : Type 0 where
+-- s² d0 = u0², s² d1 = u0 u1, 3 s² d2 = 2 u1² + u0 u2, s² d3 = u1 u2 and s² d4 = u2²
+pub record SquareOver (s : ℕ) (u0 u1 u2 : Pair) (d : QuinticLegs) : Type 0 where
+  pub first : multiple (pos (s * s)) (d .d0) ≡ times u0 u0
+  pub second : multiple (pos (s * s)) (d .d1) ≡ times u0 u1
+  pub third : multiple (pos (3 * (s * s))) (d .d2) ≡ plus (multiple (pos 2) (times u1 u1)) (times u0 u2)
+  pub fourth : multiple (pos (s * s)) (d .d3) ≡ times u1 u2
+  pub fifth : multiple (pos (s * s)) (d .d4) ≡ times u2 u2
+
+pub record FractionalSquare (d : QuinticLegs) : Type 0 where
+  pub s : ℕ
+  pub positive : 0 < s
+  pub u0 : Pair
+  pub u1 : Pair
+  pub u2 : Pair
+  pub square : SquareOver s u0 u1 u2 d
+
+pub record TracedOnce (ws : List Triple) (d : QuinticLegs) : Type 0 where
   pub triple : Triple
   pub member : Member triple ws
-  pub traces : Traces a z T triple d
-  pub no-other : (w : Triple) → Member w ws → Traces a z T w d → w ≡ triple
+  pub legs : LegsOf triple d
+  pub no-other : (w : Triple) → Member w ws → LegsOf w d → w ≡ triple

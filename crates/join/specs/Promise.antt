@@ -1,8 +1,9 @@
 -- The quintics that join a first leg to a last leg over a travel, and what `joins` promises.
---   Triple                       the pairs w0, w1, w2
---   travelled, Travels w T       three times the way that w makes; the rule of the middle coefficient: it is three times T
---   Join a z T w                 w is a curve from leg a to leg z over T, and of w and its negative the one that is kept
---   Below, key, Sorted           the order: ascending by Re w2, Im w2, Re w1, Im w1
+--   Triple                       the pairs w0, V, w2: V is twice the middle coefficient, which may be a half
+--   travelled, Travels w T       six times the way that w makes; the rule of the middle coefficient: it is six times T
+--   QuinticLegs, LegsOf w d      the five legs of a quintic; d are the legs that w makes
+--   Join a z T w                 w is a curve with whole legs from leg a to leg z over T, and of w and its negative the one that is kept
+--   Below, key, Sorted           the order: ascending by Re w2, Im w2, Re V, Im V
 --   Member, Lists P ws           ws holds every triple with P, nothing else, in the order
 --   AllJoins a z T ws            ws is the list of joins
 --   numbers                      six numbers a triple, w0 first, real before imaginary
@@ -30,30 +31,46 @@ use Rattle.join.specs.declared.JoinAnswer.the-variants as answers
 
 pub record Triple : Type 0 where
   pub w0 : Pair
-  pub w1 : Pair
+  pub v : Pair
   pub w2 : Pair
 
--- 3 w0² + 3 w0 w1 + 2 w1² + w0 w2 + 3 w1 w2 + 3 w2²
+-- 6 w0² + 3 w0 V + V² + 2 w0 w2 + 3 V w2 + 6 w2²
 abbrev pub travelled : Triple → Pair
 travelled w =
-    plus (multiple (pos 3) (times (w .w0) (w .w0)))
-    (plus (multiple (pos 3) (times (w .w0) (w .w1)))
-    (plus (multiple (pos 2) (times (w .w1) (w .w1)))
-    (plus (times (w .w0) (w .w2))
-    (plus (multiple (pos 3) (times (w .w1) (w .w2)))
-    (multiple (pos 3) (times (w .w2) (w .w2)))))))
+    plus (multiple (pos 6) (times (w .w0) (w .w0)))
+    (plus (multiple (pos 3) (times (w .w0) (w .v)))
+    (plus (times (w .v) (w .v))
+    (plus (multiple (pos 2) (times (w .w0) (w .w2)))
+    (plus (multiple (pos 3) (times (w .v) (w .w2)))
+    (multiple (pos 6) (times (w .w2) (w .w2)))))))
 
 abbrev pub Travels : Triple → Pair → Type 0
-Travels w T = multiple (pos 3) T ≡ travelled w
+Travels w T = multiple (pos 6) T ≡ travelled w
+
+pub record QuinticLegs : Type 0 where
+  pub d0 : Pair
+  pub d1 : Pair
+  pub d2 : Pair
+  pub d3 : Pair
+  pub d4 : Pair
+
+-- w0², w0 V / 2, (V² + 2 w0 w2) / 6, V w2 / 2 and w2²
+pub record LegsOf (w : Triple) (d : QuinticLegs) : Type 0 where
+  pub first : d .d0 ≡ times (w .w0) (w .w0)
+  pub second : multiple (pos 2) (d .d1) ≡ times (w .w0) (w .v)
+  pub third : multiple (pos 6) (d .d2) ≡ plus (times (w .v) (w .v)) (multiple (pos 2) (times (w .w0) (w .w2)))
+  pub fourth : multiple (pos 2) (d .d3) ≡ times (w .v) (w .w2)
+  pub fifth : d .d4 ≡ times (w .w2) (w .w2)
 
 pub record Join (a z T : Pair) (w : Triple) : Type 0 where
   pub first : times (w .w0) (w .w0) ≡ a
   pub last : times (w .w2) (w .w2) ≡ z
   pub travel : Travels w T
+  pub legs : (d : QuinticLegs) × LegsOf w d
   pub kept : FirstPositive (w .w0 .re) (w .w0 .im)
 
 abbrev pub key : Triple → List ℤ
-key w = w .w2 .re ∷ w .w2 .im ∷ w .w1 .re ∷ w .w1 .im ∷ []
+key w = w .w2 .re ∷ w .w2 .im ∷ w .v .re ∷ w .v .im ∷ []
 
 -- the first number that differs is lower
 abbrev pub Below : List ℤ → List ℤ → Type 0
@@ -80,7 +97,7 @@ AllJoins a z T = Lists (Join a z T)
 
 unfoldable pub numbers : List Triple → List ℤ
 numbers [] = []
-numbers (w ∷ ws) = w .w0 .re ∷ w .w0 .im ∷ w .w1 .re ∷ w .w1 .im ∷ w .w2 .re ∷ w .w2 .im ∷ numbers ws
+numbers (w ∷ ws) = w .w0 .re ∷ w .w0 .im ∷ w .v .re ∷ w .v .im ∷ w .w2 .re ∷ w .w2 .im ∷ numbers ws
 
 abbrev pub travelReach : ℕ
 travelReach = 40000

@@ -1,13 +1,14 @@
-// The curves between two ends: all quintics of whole pairs w0, w1, w2 from one leg to another over a travel, as a list in a lent area.
+// The curves between two ends: all quintics with whole legs from one leg to another over a travel whose leg polynomial is a square, as a list in a
+// lent area. A curve is the triple of pairs w0, V, w2: V is twice the middle coefficient, which may be a half.
 ghost use mathlib.Core.Path.{_≡_};
 ghost use mathlib.Core.List.{[], _∷_, _++_};
 ghost use Prim.Native.Nat.{_+_, _≤_};
 ghost use lib.ListN.{length, drop};
-ghost use Rattle.whole.specs.Number.{Tells};
+ghost use Rattle.whole.specs.Number.{Tells, FirstPositive};
 ghost use Rattle.area.specs.Area.{Cleared};
 ghost use Rattle.join.specs.declared.JoinAnswer.the-variants as answers;
 ghost use Rattle.join.specs.Promise.{EndsInRange, DeadEnd, Join, Joined, numbers};
-ghost use Rattle.join.specs.Steps.{triple, shift, discriminant, Quartered, Half, JoinSizes, WritesTriples};
+ghost use Rattle.join.specs.Steps.{triple, fixed, Even, HalfSteps, Halved, Centred, Ending, MiddleSizes, CentreSizes, EndSizes, WritesTriples};
 use area::clear;
 use curve::COORDINATE_REACH;
 use divisor::PairQuotient;
@@ -58,14 +59,14 @@ fn is_dead_end(a: Pair, z: Pair) -> bool
 }
 
 // Six numbers at the area's start.
-fn put(area: &mut [i64], w0: Pair, w1: Pair, w2: Pair)
+fn put(area: &mut [i64], w0: Pair, v: Pair, w2: Pair)
     requires { ⌜ 6 ≤ length (now area) ⌝ }
-    ensures { λ r. ⌜ now (area .exit) ≡ numbers (triple w0 w1 w2 ∷ []) ++ drop 6 (now (area .entry)) ⌝ }
+    ensures { λ r. ⌜ now (area .exit) ≡ numbers (triple w0 v w2 ∷ []) ++ drop 6 (now (area .entry)) ⌝ }
 {
     let a = w0.re;
     let b = w0.im;
-    let c = w1.re;
-    let d = w1.im;
+    let c = v.re;
+    let d = v.im;
     let e = w2.re;
     let f = w2.im;
     area[0] = a;
@@ -76,47 +77,80 @@ fn put(area: &mut [i64], w0: Pair, w1: Pair, w2: Pair)
     area[5] = f;
 }
 
-// The triple whose middle is a quarter of n, if there is one, written at a place; the place behind it.
-fn put_quarter(area: &mut [i64], at: usize, w0: Pair, n: Pair, w2: Pair) -> usize
-    requires { ⌜ at + 6 ≤ length (now area) ⌝ }
-    ensures { λ r. ⌜ WritesTriples 1 (Quartered w0 n w2) at (now (area .entry)) (now (area .exit)) r ⌝ }
+// Whether half of x is whole.
+fn is_even(x: Pair) -> bool
+    ensures { λ r. ⌜ Tells (Even x) r ⌝ }
 {
-    let PairQuotient::Whole(w1) = over_whole(n, 4) else {
+    match over_whole(x, 2) {
+        PairQuotient::Whole(_) => true,
+        PairQuotient::None => false,
+    }
+}
+
+// Whether the legs w0 V / 2 and V w2 / 2 are whole. Over a travel the middle leg is whole then too.
+fn has_half_steps(w0: Pair, v: Pair, w2: Pair) -> bool
+    requires { ⌜ MiddleSizes w0 v w2 ⌝ }
+    ensures { λ r. ⌜ Tells (HalfSteps (triple w0 v w2)) r ⌝ }
+{
+    if !is_even(product(w0, v)) {
+        return false;
+    }
+    is_even(product(v, w2))
+}
+
+// The triple whose middle is the half of n, if it has whole legs, written at a place; the place behind it.
+fn put_half(area: &mut [i64], at: usize, w0: Pair, n: Pair, w2: Pair) -> usize
+    requires { ⌜ MiddleSizes w0 n w2 × (at + 6 ≤ length (now area)) ⌝ }
+    ensures { λ r. ⌜ WritesTriples 1 (Halved w0 n w2) at (now (area .entry)) (now (area .exit)) r ⌝ }
+{
+    let PairQuotient::Whole(v) = over_whole(n, 2) else {
         return at;
     };
-    put(&mut area[at..], w0, w1, w2);
+    if !has_half_steps(w0, v, w2) {
+        return at;
+    }
+    put(&mut area[at..], w0, v, w2);
     at + 6
 }
 
-// s^2 - 8 (m + w0 w2), of which 4 w1 + s is a root.
-fn square_of(m: Pair, s: Pair, w0: Pair, w2: Pair) -> Pair
-    requires { ⌜ JoinSizes m w0 w2 × (s ≡ shift w0 w2) ⌝ }
-    ensures { λ r. ⌜ r ≡ discriminant m w0 w2 ⌝ }
+// The triples with these ends, of which 2 V + 3 (w0 + w2) is a root of d: the one with the lower middle first, written at a place; the place behind them.
+fn put_both(area: &mut [i64], at: usize, w0: Pair, d: Pair, w2: Pair) -> usize
+    requires { ⌜ CentreSizes w0 d w2 × (at + 12 ≤ length (now area)) ⌝ }
+    ensures { λ r. ⌜ WritesTriples 2 (Centred w0 d w2) at (now (area .entry)) (now (area .exit)) r ⌝ }
 {
-    let p = product(w0, w2);
-    let q = multiple(8, sum(m, p));
-    difference(product(s, s), q)
-}
-
-// The triples with these ends, the one with the lower middle first, written at a place; the place behind them.
-fn put_half(area: &mut [i64], at: usize, m: Pair, w0: Pair, w2: Pair) -> usize
-    requires { ⌜ JoinSizes m w0 w2 × (at + 12 ≤ length (now area)) ⌝ }
-    ensures { λ r. ⌜ WritesTriples 2 (Half m w0 w2) at (now (area .entry)) (now (area .exit)) r ⌝ }
-{
-    let s = multiple(3, sum(w0, w2));
-    let PairRoot::Root(d) = root(square_of(m, s, w0, w2)) else {
+    let PairRoot::Root(c) = root(d) else {
         return at;
     };
-    let low = difference(negative(d), s);
-    let next = put_quarter(area, at, w0, low, w2);
-    if is_zero(d) {
+    let s = multiple(3, sum(w0, w2));
+    let low = difference(negative(c), s);
+    let high = difference(c, s);
+    let next = put_half(area, at, w0, low, w2);
+    if is_zero(c) {
         return next;
     }
-    let high = difference(d, s);
-    put_quarter(area, next, w0, high, w2)
+    put_half(area, next, w0, high, w2)
 }
 
-// Every join, written from the area's start; the place behind the last. The lower root of z comes first.
+// 24 T - 15 (a + z)
+fn fixed_part(a: Pair, z: Pair, t: Pair) -> Pair
+    requires { ⌜ EndsInRange a z t ⌝ }
+    ensures { λ r. ⌜ r ≡ fixed a z t ⌝ }
+{
+    difference(multiple(24, t), multiple(15, sum(a, z)))
+}
+
+// The triples that end in -r, and then those that end in r, written from the area's start; the place behind the last. One product serves both.
+fn put_ends(area: &mut [i64], w0: Pair, f: Pair, r: Pair) -> usize
+    requires { ⌜ EndSizes w0 f r × FirstPositive (r .re) (r .im) × (24 ≤ length (now area)) ⌝ }
+    ensures { λ n. ⌜ WritesTriples 4 (Ending w0 f r) 0 (now (area .entry)) (now (area .exit)) n ⌝ }
+{
+    let p = multiple(10, product(w0, r));
+    let low = negative(r);
+    let next = put_both(area, 0, w0, difference(f, p), low);
+    put_both(area, next, w0, sum(f, p), r)
+}
+
+// Every join, written from the area's start; the place behind the last.
 fn put_all(area: &mut [i64], a: Pair, z: Pair, t: Pair) -> usize
     requires { ⌜ EndsInRange a z t × (DeadEnd a z → ⊥) × (24 ≤ length (now area)) ⌝ }
     ensures { λ r. ⌜ WritesTriples 4 (Join a z t) 0 (now (area .entry)) (now (area .exit)) r ⌝ }
@@ -127,10 +161,7 @@ fn put_all(area: &mut [i64], a: Pair, z: Pair, t: Pair) -> usize
     let PairRoot::Root(r) = root(z) else {
         return 0;
     };
-    let m = multiple(3, difference(sum(a, z), t));
-    let low = negative(r);
-    let next = put_half(area, 0, m, w0, low);
-    put_half(area, next, m, w0, r)
+    put_ends(area, w0, fixed_part(a, z, t), r)
 }
 
 // After a refusal the area is all zero.

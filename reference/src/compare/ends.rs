@@ -3,17 +3,19 @@
 use super::chance::Chance;
 use super::shapes::a_pair;
 use crate::curve::COORDINATE_LIMIT;
+use crate::join::legs;
 use crate::pair::{pair, Pair};
 use crate::poly::Whole;
 
 /// The parts of a, z and T, within their ranges; neither a nor z is zero.
 pub fn ends(chance: &mut Chance) -> [i64; 6] {
     loop {
-        let made = match chance.below(8) {
+        let made = match chance.below(10) {
             0 => Some(anywhere(chance)),
             1 => Some(squares(chance)),
             2 | 3 => one_triple(chance),
-            4..=6 => pairs_of_triples(chance),
+            4 | 5 => half_step(chance),
+            6..=8 => pairs_of_triples(chance),
             _ => double_triple(chance),
         };
         let slip = chance.pick(&[0, 0, 0, 0, 0, 0, 1, -1]);
@@ -40,23 +42,33 @@ fn squares(chance: &mut Chance) -> [Pair; 3] {
     [w0 * w0, w2 * w2, travel]
 }
 
-/// The ends of a triple; nothing where its travel is not whole.
-fn joined(w0: Pair, w1: Pair, w2: Pair) -> Option<[Pair; 3]> {
-    let threefold = (w0 * w0 + w0 * w1 + w1 * w2 + w2 * w2).times(3);
-    let sum = threefold + (w1 * w1).times(2) + w0 * w2;
-    Some([w0 * w0, w2 * w2, sum.exact_quotient(pair(3, 0))?])
+/// The ends of a triple; nothing where its legs are not whole.
+fn joined(w0: Pair, v: Pair, w2: Pair) -> Option<[Pair; 3]> {
+    let legs = legs(&[w0, v, w2])?;
+    let travel = legs.into_iter().fold(Pair::default(), |sum, leg| sum + leg);
+    Some([w0 * w0, w2 * w2, travel])
 }
 
+/// A triple whose middle coefficient is whole.
 fn one_triple(chance: &mut Chance) -> Option<[Pair; 3]> {
     let limit = chance.pick(&[2, 9, 90]);
     let [w0, w1, w2] = [0; 3].map(|_| a_pair(chance, limit));
-    joined(w0, w1, w2)
+    joined(w0, w1.times(2), w2)
 }
 
-/// w1 is (−3(w0 + w2) ± δ)/4 for w2, and (−3(w0 − w2) ± ε)/4 for −w2, where δ² − ε² = 20·w0·w2.
+/// A triple whose middle coefficient is a half: either both ends are even, or 1 + i divides all three.
+fn half_step(chance: &mut Chance) -> Option<[Pair; 3]> {
+    let limit = chance.pick(&[2, 5, 40]);
+    let [x, v, y] = [0; 3].map(|_| a_pair(chance, limit));
+    let turn = pair(1, 1);
+    let [w0, v, w2] = chance.pick(&[[x.times(2), v, y.times(2)], [turn * x, turn * v, turn * y]]);
+    joined(w0, v, w2)
+}
+
+/// V is (−3(w0 + w2) ± δ)/2 for w2, and (−3(w0 − w2) ± ε)/2 for −w2, where δ² − ε² = 20·w0·w2.
 fn with_root(w0: Pair, w2: Pair, delta: Pair) -> Option<[Pair; 3]> {
-    let w1 = (delta - (w0 + w2).times(3)).exact_quotient(pair(4, 0))?;
-    joined(w0, w1, w2)
+    let v = (delta - (w0 + w2).times(3)).exact_quotient(pair(2, 0))?;
+    joined(w0, v, w2)
 }
 
 /// Two factors of 5.
@@ -67,7 +79,7 @@ fn factors(chance: &mut Chance) -> (Pair, Pair) {
 }
 
 /// Half of δ + ε and half of δ − ε are two factors of 5·w0·w2, made from the factors of w0 and w2: so both roots are
-/// whole, and there are four triples where the quarters and thirds are whole too.
+/// whole, and there are four triples where the legs are whole too.
 fn pairs_of_triples(chance: &mut Chance) -> Option<[Pair; 3]> {
     let (p, r) = factors(chance);
     let limit = chance.pick(&[1, 2]);

@@ -141,7 +141,7 @@ fn joins_of_case_8() {
         let (out, rest) = (vec![5; room], Areas::default());
         told(Function::Joins, [ax, 0, 1, 0, 5, 0], Areas { out, ..rest })
     };
-    let mut case_8 = vec![1, 0, -4, 0, 1, 0, 1, 0, 1, 0, 1, 0];
+    let mut case_8 = vec![1, 0, -8, 0, 1, 0, 1, 0, 2, 0, 1, 0];
     case_8.resize(25, 0);
     is(&joined(1, 25), 2, &case_8);
     is(&joined(1, 23), -12, &[0; 23]);

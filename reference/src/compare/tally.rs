@@ -8,7 +8,16 @@ use crate::refusal::{
 
 const SHEET_FAULTS: [Refusal; 6] = [TooLong, Cut, Leftover, Kind, Length, Range];
 const VERDICTS: [&str; 4] = ["still", "no", "ph", "pre"];
-const TRIPLES: [&str; 5] = ["none", "one", "two", "three", "four"];
+/// Lists whose middle coefficients are all whole, by their length; then those with halves alone, and with both.
+const TRIPLES: [&str; 7] = [
+    "none",
+    "one",
+    "two",
+    "three",
+    "four",
+    "half steps",
+    "both kinds",
+];
 const TURNS: [&str; 4] = ["none", "one", "two", "straight"];
 const LEFT: [&str; 3] = ["nothing", "some", "most"];
 
@@ -115,7 +124,7 @@ fn outcome(call: &Call, answer: &Answer) -> &'static str {
     let which = match call.function {
         Function::Recognise => out[0] as usize,
         Function::Inflections => (if out[4] == 1 { 3 } else { out[3] }) as usize,
-        Function::Joins => answer.returned as usize,
+        Function::Joins => kind_of_list(answer.returned as usize, out),
         Function::Length => usize::from(out[2] == 12),
         Function::Offset => usize::from(answer.returned == 30),
         Function::Build | Function::Read => usize::from(answer.returned == 12),
@@ -127,4 +136,14 @@ fn outcome(call: &Call, answer: &Answer) -> &'static str {
         Function::Root => usize::from(out[1] > 0) + usize::from(out[1] > 0 && out[1] == 2 * out[0]),
     };
     answers(call.function)[which]
+}
+
+/// Which of TRIPLES a list is.
+fn kind_of_list(count: usize, out: &[i64]) -> usize {
+    let is_half = |triple: &&[i64]| triple[2] % 2 != 0 || triple[3] % 2 != 0;
+    match out.chunks(6).take(count).filter(is_half).count() {
+        0 => count,
+        halves if halves == count => 5,
+        _ => 6,
+    }
 }

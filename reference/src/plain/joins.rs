@@ -1,6 +1,6 @@
-//! Joins: the triples (w0, w1, w2) between two legs over a travel, by the quadratic's formula.
+//! Joins: the triples (w0, V, w2) between two legs over a travel, by the quadratic's formula. V is twice the middle coefficient.
 
-use crate::number::{root, Pair};
+use crate::number::{pair, root, Pair};
 use crate::recognise::COORDINATE_LIMIT;
 
 /// Parts of T lie from minus this to this.
@@ -13,32 +13,37 @@ pub fn in_range(a: Pair, z: Pair, travel: Pair) -> bool {
 }
 
 /// Writes the triples in the stated order into 24 numbers that are zero, and counts them.
-/// 4·w1 = −3(w0 + w2) ∓ δ with δ² = 9(w0 + w2)² − 8(3a + 3z + w0·w2 − 3T).
+/// 2·V = −3(w0 + w2) ∓ δ with δ² = 24T − 15(a + z) + 10·w0·w2, and the legs beside the middle are whole.
 pub fn write_joins(a: Pair, z: Pair, travel: Pair, out: &mut [i64]) -> i64 {
     let (Some(w0), Some(r)) = (whole_root(a), whole_root(z)) else {
         return 0;
     };
+    let fixed = travel.times(24) - (a + z).times(15);
+    let product = (w0 * r).times(10);
     let mut count = 0;
-    for w2 in [r.times(-1), r] {
-        let sum = (w0 + w2).times(3);
-        let k = (a + z - travel).times(3) + w0 * w2;
-        let Some(delta) = whole_root(sum * sum - k.times(8)) else {
+    for (w2, square) in [(r.times(-1), fixed - product), (r, fixed + product)] {
+        let Some(delta) = whole_root(square) else {
             continue;
         };
         let once = delta == Pair::default();
-        let minus = sum.times(-1);
-        for four in [minus - delta, minus + delta]
+        let minus = (w0 + w2).times(-3);
+        for double in [minus - delta, minus + delta]
             .into_iter()
             .take(2 - once as usize)
         {
-            if (four.re | four.im) & 3 == 0 {
-                let numbers = [w0.re, w0.im, four.re >> 2, four.im >> 2, w2.re, w2.im];
+            let v = pair(double.re >> 1, double.im >> 1);
+            if is_even(double) && is_even(w0 * v) && is_even(v * w2) {
+                let numbers = [w0.re, w0.im, v.re, v.im, w2.re, w2.im];
                 out[6 * count..6 * count + 6].copy_from_slice(&numbers);
                 count += 1;
             }
         }
     }
     count as i64
+}
+
+fn is_even(x: Pair) -> bool {
+    (x.re | x.im) & 1 == 0
 }
 
 /// The root whose first part that isn't zero is positive; 0 is its own.
@@ -51,7 +56,6 @@ fn whole_root(x: Pair) -> Option<Pair> {
 #[cfg(test)]
 mod tests {
     use super::*;
-    use crate::number::pair;
 
     #[test]
     fn roots_of_pairs() {

@@ -22,7 +22,7 @@ module _ (c : tie.After-struct-told6) where
 
   -- the six numbers, as the machine reads them back
   abbrev six : List ℤ
-  six = bits (s .args .w0 .re) ∷ bits (s .args .w0 .im) ∷ bits (s .args .w1 .re) ∷ bits (s .args .w1 .im) ∷ bits (s .args .w2 .re) ∷ bits (s .args .w2 .im) ∷ []
+  six = bits (s .args .w0 .re) ∷ bits (s .args .w0 .im) ∷ bits (s .args .v .re) ∷ bits (s .args .v .im) ∷ bits (s .args .w2 .re) ∷ bits (s .args .w2 .im) ∷ []
 
 slice-set-from-a : tie.Need-slice-set-from-a
 slice-set-from-a c = search needs
@@ -51,8 +51,8 @@ returns c =
     let w = s c .args in
     let f : SFits w64 (w .w0 .re) = search needs in
     let g : SFits w64 (w .w0 .im) = search needs in
-    let h : SFits w64 (w .w1 .re) = search needs in
-    let k : SFits w64 (w .w1 .im) = search needs in
+    let h : SFits w64 (w .v .re) = search needs in
+    let k : SFits w64 (w .v .im) = search needs in
     let l : SFits w64 (w .w2 .re) = search needs in
     let m : SFits w64 (w .w2 .im) = search needs in
     sets-eq (six c) (w .area .now) 0 (omega arith)
