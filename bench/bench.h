@@ -33,6 +33,14 @@ int64_t plain_joins(int64_t ax, int64_t ay, int64_t zx, int64_t zy, int64_t tx, 
 int64_t plain_check(const uint8_t *s, size_t len);
 int64_t plain_report(const uint8_t *s, size_t len, uint8_t *text, size_t room);
 
+/* The plain check of a sheet in parts has a state of its own, which needs no more than this. */
+struct plain_parts {
+    int64_t held[16];
+};
+void plain_parts_start(struct plain_parts *state);
+int64_t plain_parts_feed(struct plain_parts *state, const uint8_t *part, size_t len);
+int64_t plain_parts_end(struct plain_parts *state);
+
 /* FLINT's, where it is installed. */
 int64_t flint_recognise(const int64_t *p, size_t n, int64_t *out, size_t room);
 

@@ -40,6 +40,29 @@ static void report_one(const struct row *row, const uint8_t *sheet) {
     returned = ((report_call *)row->call)(sheet, YARD_SHEET_BYTES, area.text, sizeof area.text);
 }
 
+/* A sheet in parts, as a cable hands them over. Both checks have the form of the whole one, so its pass times them. */
+enum { PART = 64 };
+
+static size_t part_at(size_t at, size_t len) {
+    return len - at < PART ? len - at : PART;
+}
+
+static int64_t check_in_parts(const uint8_t *s, size_t len) {
+    int64_t state[YARD_PARTS_NUMBERS];
+    yard_parts_start(state, YARD_PARTS_NUMBERS);
+    for (size_t at = 0; at < len; at += PART)
+        yard_parts_feed(state, YARD_PARTS_NUMBERS, s + at, part_at(at, len));
+    return yard_parts_end(state, YARD_PARTS_NUMBERS);
+}
+
+static int64_t plain_check_in_parts(const uint8_t *s, size_t len) {
+    struct plain_parts state;
+    plain_parts_start(&state);
+    for (size_t at = 0; at < len; at += PART)
+        plain_parts_feed(&state, s + at, part_at(at, len));
+    return plain_parts_end(&state);
+}
+
 /* Whether the pass makes a call on input k. */
 static int has(const struct row *row, size_t k) {
     return row->verdict == ALL || row->verdict == row->curves[k].verdict;
@@ -88,6 +111,9 @@ const struct row rows[] = {
     {"joins", "plain", CALL(plain_joins), pass_joins, NULL, ALL},
     {"sheet check", "library", CALL(yard_check), pass_check, NULL, ALL},
     {"sheet check", "plain", CALL(plain_check), pass_check, NULL, ALL},
+    {"sheet check, parts of 64", "library", CALL(check_in_parts), pass_check, NULL, ALL},
+    {"sheet check, parts of 64", "plain", CALL(plain_check_in_parts), pass_check, NULL, ALL},
+    {"sheet check, parts of 64", "library, whole", CALL(yard_check), pass_check, NULL, ALL},
     {"report", "library", CALL(yard_report), pass_report, NULL, ALL},
     {"report", "plain", CALL(plain_report), pass_report, NULL, ALL},
 };

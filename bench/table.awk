@@ -1,7 +1,7 @@
 # The table of the benchmark from its rows (job, who, ns, instructions, times the library's time), and the goals.
 
 function line(job, who, ns, count, ratio) {
-    printf "| %-20s | %-14s | %10s | %12s | %7s |\n", job, who, ns, count, ratio
+    printf "| %-24s | %-14s | %10s | %12s | %7s |\n", job, who, ns, count, ratio
 }
 
 # A number with three digits that count, or more before the point.
@@ -44,5 +44,7 @@ END {
     goal("recognise in at most 400 instructions", counted ~ /^[0-9]+$/, counted, "instructions", "most", 400)
     goal("joins no slower than plain code", 1, 1 / ratio["joins/plain"], "times its time", "most", 1)
     goal("a box of a thousand full sheets in at most 100 ms", 1, ns["box/library"] / 1000, "ms", "most", 100)
+    whole = ratio["sheet check, parts of 64/library, whole"]
+    goal("a full sheet in parts of 64 bytes in at most 3 times the whole check's time", 1, 1 / whole, "times", "most", 3)
     goal("sheet check at least 2 GB/s", 1, 4096 / ns["sheet check/library"], "GB/s", "least", 2)
 }

@@ -4,9 +4,9 @@
  *     library plant N    the same with a fault: one number of answer N, counted from 1, is one too large
  *
  * A call is words of 64 bits, little-endian: the function, six single numbers, and then four areas: numbers to read, a
- * sheet, a number area to write and a text area to write. An area is its count and what it holds before the call. An
- * answer is the word that came back and the four areas after the call, each between its guards, so that a write outside
- * an area shows. */
+ * sheet or a part of one, a number area to write, which may be a state, and a text area to write. An area is its count
+ * and what it holds before the call. An answer is the word that came back and the four areas after the call, each
+ * between its guards, so that a write outside an area shows. */
 #include <stdint.h>
 #include <stdio.h>
 #include <stdlib.h>
@@ -58,6 +58,22 @@ static void give_area(const struct area *area) {
     give(area->room, area->each * area->count + 2 * GUARDS);
 }
 
+/* The calls of a sheet that comes in parts. */
+static int64_t answer_parts(int64_t function, const uint8_t *part, size_t len, int64_t *state, size_t room) {
+    switch (function) {
+    case 14:
+        return yard_parts_start(state, room);
+    case 15:
+        return yard_parts_feed(state, room, part, len);
+    case 16:
+        return yard_parts_end(state, room);
+    case 17:
+        return yard_parts_ask(state, room);
+    }
+    fail("no such function");
+    return 0;
+}
+
 static int64_t answer(int64_t function, const int64_t x[6], struct area areas[4]) {
     const int64_t *p = start(&areas[0]);
     uint8_t *s = start(&areas[1]);
@@ -92,8 +108,7 @@ static int64_t answer(int64_t function, const int64_t x[6], struct area areas[4]
     case 13:
         return yard_root((uint64_t)x[0], out, room);
     }
-    fail("no such function");
-    return 0;
+    return answer_parts(function, s, len, out, room);
 }
 
 /* The fault stands in the last number of the area, or, where it has none, in what came back. */

@@ -87,6 +87,54 @@ hold_parts() {
     done
 }
 
+# What ./yard check says of its standard input: a line, which the status follows.
+hold_check() { # LINE
+    expected=0
+    case $1 in "refused "*) expected=1 ;; esac
+    status=0
+    check >"$room/answer" || status=$?
+    echo "$1" | diff - "$room/answer"
+    [ "$status" -eq "$expected" ] || { echo "yard: the check that says '$1': status $status, not $expected" >&2 && exit 1; }
+}
+
+# So many bytes FF.
+erased() {
+    head -c "$1" /dev/zero | tr '\0' '\377'
+}
+
+# Each sample over the cable, as it is, in two parts and byte by byte: a pipe that is written to directly hands each write over by itself. The
+# line is the first of the sample's report.
+hold_samples_by_cable() {
+    for sheet in samples/*.sheet; do
+        line=$(head -n 1 "${sheet%.sheet}.report")
+        hold_check "$line" <"$sheet"
+        { head -c 10 "$sheet" && sleep 0.2 && tail -c +11 "$sheet"; } | hold_check "$line"
+        dd if="$sheet" bs=1 oflag=direct status=none | hold_check "$line"
+    done
+}
+
+# As many bytes as a sheet has, and more; a fault that more bytes follow; and a cable that goes on.
+hold_long_cables() {
+    erased 4096 | hold_check "sheet 0"
+    erased 4097 | hold_check "refused 1 at 0"
+    erased 100000 | hold_check "refused 1 at 0"
+    { cat samples/leftover.sheet && erased 4044; } | hold_check "refused 3 at 46"
+    { cat samples/leftover.sheet && sleep 0.2 && erased 4045; } | hold_check "refused 1 at 0"
+    yes | hold_check "refused 1 at 0"
+}
+
+# Where too much has arrived no end is waited for: the cable is still open behind the answer. An input that cannot be read has no answer.
+hold_ends_of_cables() {
+    mkfifo "$room/cable"
+    { erased 4097 && exec sleep 30; } >"$room/cable" &
+    hold_check "refused 1 at 0" <"$room/cable"
+    kill $! || { echo "yard: the check has waited for the end of what is too long" >&2 && exit 1; }
+    status=0
+    check <samples >"$room/answer" 2>"$room/said" || status=$?
+    [ "$status" -eq 2 ] && [ ! -s "$room/answer" ] && grep -q '^standard input: ' "$room/said" ||
+        { echo "yard: the check of an input that cannot be read: status $status" >&2 && exit 1; }
+}
+
 # Boxes made by chance: the text and the status are those of the second program.
 hold_boxes_by_chance() {
     "$second" boxes "$room/boxes" 1
@@ -120,6 +168,9 @@ all_tests() {
     hold_boxes
     hold_boxes_by_chance
     hold_parts
+    hold_samples_by_cable
+    hold_long_cables
+    hold_ends_of_cables
     hold_questions
     prepare_library
     compare_library 20000 1

@@ -2,7 +2,7 @@
  *
  * What comes back. 0 or more is an answer, which each call describes. Below 0 is a refusal, as
  * -(number + 32 * place); yard_refusal and yard_place take the two apart. A place is a byte of the sheet, and 0
- * where a refusal has none.
+ * where a refusal has none. YARD_NOT_ENDED is neither, and comes from yard_parts_ask alone.
  *
  * Which refusal. Each call lists those that it knows, in order, and gives the first whose cause holds.
  *
@@ -35,7 +35,7 @@ enum {
     YARD_LEFTOVER = 3,     /* a byte behind the erased part is not FF; its place is that byte */
     YARD_KIND = 4,         /* a record is neither C3 nor C5 */
     YARD_LENGTH = 5,       /* a record's length is not its kind's; or a wrong count of numbers was passed */
-    YARD_RANGE = 6,        /* a number is outside its range */
+    YARD_RANGE = 6,        /* a number is outside its range; or a state is not one that a call left */
     YARD_NUMBER = 7,       /* the sheet has no curve of that number; the first is 1 */
     YARD_STILL = 8,        /* all points are equal, or all w are zero */
     YARD_NOT_PH = 9,       /* the curve is not Pythagorean */
@@ -43,7 +43,8 @@ enum {
     YARD_ROOT = 11,        /* c is not a square */
     YARD_ROOM = 12,        /* the lent area, or the erased part of the sheet, is too short */
     YARD_THIRDS = 13,      /* 2 w1^2 + w0 w2 has a part that 3 does not divide */
-    YARD_DEAD_END = 14     /* the first or the last leg is zero */
+    YARD_DEAD_END = 14,    /* the first or the last leg is zero */
+    YARD_ENDED = 19        /* the sheet that comes in parts has ended */
 };
 
 /* The verdicts: the first number that yard_recognise writes. */
@@ -69,18 +70,22 @@ enum {
     YARD_JOIN_NUMBERS = 24,
     YARD_FOUND_NUMBERS = 2,
     YARD_ROOT_NUMBERS = 2,
+    YARD_PARTS_NUMBERS = 12,
     YARD_SHEET_BYTES = 4096, /* the longest sheet */
     YARD_REPORT_BYTES = 5321 /* no report is longer */
 };
 
-/* The number of the refusal that a call returned, and 0 of an answer. */
+/* What yard_parts_ask returns of a sheet that has not ended: no answer, and no refusal. */
+#define YARD_NOT_ENDED INT64_MIN
+
+/* The number of the refusal that a call returned, and 0 of an answer and of YARD_NOT_ENDED. */
 static inline int yard_refusal(int64_t returned) {
-    return returned < 0 ? (int)(-returned % 32) : 0;
+    return returned < 0 ? (int)-(returned % 32) : 0;
 }
 
-/* The place of the refusal that a call returned, and 0 of an answer. */
+/* The place of the refusal that a call returned, and 0 of an answer and of YARD_NOT_ENDED. */
 static inline size_t yard_place(int64_t returned) {
-    return returned < 0 ? (size_t)(-returned / 32) : 0;
+    return yard_refusal(returned) != 0 ? (size_t)-(returned / 32) : 0;
 }
 
 /* What a curve is. out: the verdict, c, q0 to q4, kappa (real, imaginary), b0, b1 and b2 of w (real, imaginary);
@@ -152,6 +157,46 @@ int64_t yard_report(const uint8_t *s, size_t len, uint8_t *text, size_t room);
  * with r^2 + rest = n and rest <= 2 r. A number is a square where the rest is 0. Returns 2.
  * Refuses: ROOM (below 2). */
 int64_t yard_root(uint64_t n, int64_t *out, size_t room);
+
+/* The check of a sheet that comes in parts, as over a cable: start, feed each part as it arrives, end.
+ *
+ *     int64_t state[YARD_PARTS_NUMBERS];
+ *     yard_parts_start(state, YARD_PARTS_NUMBERS);
+ *     while ((len = from_cable(part)) >= 0) yard_parts_feed(state, YARD_PARTS_NUMBERS, part, (size_t)len);
+ *     int64_t curves = yard_parts_end(state, YARD_PARTS_NUMBERS);
+ *
+ * from_cable stands for your own reading: how many bytes have arrived in `part`, perhaps none, and below 0 after the
+ * last. `curves` is then what yard_check returns of the whole sheet, a refusal included.
+ *
+ * The state is all that is kept: the first 12 numbers of an area of `room` numbers. Those behind are left as they are.
+ * It holds no pointer, so it may be copied, and two sheets may come at once, each with its own state. Let these calls
+ * alone write it: numbers that they cannot have left are RANGE, with place 0. ROOM, that RANGE and ENDED change
+ * nothing. Nobody needs to look into a state, but this is what stands there:
+ *
+ *     0         0 while parts may follow, 1 once the sheet has ended
+ *     1         how many bytes came; 4,097 where they are more than 4,096, and then all numbers behind are 0
+ *     2, 3      how many sound curves stand at the start, before any fault, and the place where they end
+ *     4         how many bytes FF stand from that place on, up to the first other one
+ *     5 to 11   the first 52 bytes from that place on, eight to a number as a little-endian int64_t; 0 for bytes that
+ *               have not come, and for the last four of number 11 */
+
+/* Begins a sheet of which nothing has come, whatever the area held. Returns 0.
+ * Refuses: ROOM (below 12). */
+int64_t yard_parts_start(int64_t *state, size_t room);
+
+/* Takes the next part of the sheet, of any size, also none. Tells no fault of the sheet: that waits for the end.
+ * Returns 0.
+ * Refuses: ROOM (below 12), RANGE (the state), ENDED (an empty part too). */
+int64_t yard_parts_feed(int64_t *state, size_t room, const uint8_t *part, size_t len);
+
+/* Ends the sheet, whether it has a fault or not. Returns the count of its curves. Ending once more returns the same and
+ * changes nothing.
+ * Refuses: ROOM (below 12), RANGE (the state), as yard_check of all bytes that were fed. */
+int64_t yard_parts_end(int64_t *state, size_t room);
+
+/* What yard_parts_end returned, and YARD_NOT_ENDED where the sheet has not ended. Changes nothing.
+ * Refuses: as yard_parts_end. */
+int64_t yard_parts_ask(const int64_t *state, size_t room);
 
 #ifdef __cplusplus
 }

@@ -20,6 +20,7 @@ mod join;
 mod measure;
 mod offset;
 mod pair;
+mod parts;
 mod poly;
 mod refusal;
 mod report;
@@ -52,9 +53,11 @@ A script line is `LABEL: CALL`; empty lines and lines that begin with # are skip
        build P0 from W0 W1                 build P0 from W0 W1 W2
        joins A Z over T in ROOM            root N
        check RUNS                          erase RUNS
+       parts RUNS / RUNS / ...
        read NUMBER of RUNS                 find NUMBER of RUNS
        append C3 POINTS to RUNS            append C5 POINTS to RUNS
 A point or pair is (x,y), a curve 4 or 6 points with blanks between; a run of a sheet's bytes is (BYTE,HOW MANY).
+Parts are fed one after another, perhaps empty ones, and then the sheet is ended: the answer is that of `check`.
 A sheet text has lines `C3 POINTS`, `C5 POINTS`, `erased N`, `bytes 00 11 ff`, and # for comments.
 Status 0 is an answer, 1 a sheet or call refused or a difference, 2 a mistake in the command line or in a text.
 ";

@@ -1,23 +1,5 @@
 //! The refusal table: every refusal by its number.
 
-/// The names of those that the calls for C know, from number 1 on.
-pub const NAMES: [&str; 14] = [
-    "TOO LONG",
-    "CUT",
-    "LEFTOVER",
-    "KIND",
-    "LENGTH",
-    "RANGE",
-    "NUMBER",
-    "STILL",
-    "NOT PH",
-    "NO PREIMAGE",
-    "ROOT",
-    "ROOM",
-    "THIRDS",
-    "DEAD END",
-];
-
 #[derive(Clone, Copy, Debug, PartialEq, Eq)]
 pub enum Refusal {
     TooLong = 1,
@@ -34,7 +16,34 @@ pub enum Refusal {
     Room = 12,
     Thirds = 13,
     DeadEnd = 14,
+    Ended = 19,
     Full = 20,
+}
+
+/// The names of those that the calls for C know.
+const NAMES: [(Refusal, &str); 15] = [
+    (Refusal::TooLong, "TOO LONG"),
+    (Refusal::Cut, "CUT"),
+    (Refusal::Leftover, "LEFTOVER"),
+    (Refusal::Kind, "KIND"),
+    (Refusal::Length, "LENGTH"),
+    (Refusal::Range, "RANGE"),
+    (Refusal::Number, "NUMBER"),
+    (Refusal::Still, "STILL"),
+    (Refusal::NotPh, "NOT PH"),
+    (Refusal::NoPreimage, "NO PREIMAGE"),
+    (Refusal::Root, "ROOT"),
+    (Refusal::Room, "ROOM"),
+    (Refusal::Thirds, "THIRDS"),
+    (Refusal::DeadEnd, "DEAD END"),
+    (Refusal::Ended, "ENDED"),
+];
+
+/// The name of the refusal of that number, which a call for C knows.
+pub fn name_of(number: i64) -> &'static str {
+    let of_number = |row: &&(Refusal, _)| i64::from(row.0.number()) == number;
+    let row = NAMES.iter().find(of_number);
+    row.expect("a refusal that a call for C knows").1
 }
 
 impl Refusal {

@@ -1,13 +1,15 @@
 //! The calls of a script on sheets. A sheet is told by its runs of equal bytes, each as `(BYTE,HOW MANY)`.
 
+use crate::parts::{end, feed, start, NUMBERS};
 use crate::refusal::Refusal;
 use crate::script::{a_pair, curve, number, row};
-use crate::sheet::{append, check, erase, find, read};
+use crate::sheet::{append, check, count, erase, find, read, Fault};
 
 /// The answer to a call on a sheet; nothing where it is a call of another kind.
 pub fn answer(name: &str, words: &[&str]) -> Option<Result<String, String>> {
     Some(match name {
-        "check" => bytes(words).map(|sheet| check_text(&sheet)),
+        "check" => bytes(words).map(|sheet| check_text(count(&sheet))),
+        "parts" => parts_text(words),
         "read" => numbered(words).map(|(number, sheet)| match read(&sheet, number) {
             Ok(curve) => row(curve.points()),
             Err(refusal) => refused(&sheet, refusal),
@@ -22,11 +24,25 @@ pub fn answer(name: &str, words: &[&str]) -> Option<Result<String, String>> {
     })
 }
 
-fn check_text(sheet: &[u8]) -> String {
-    match check(sheet) {
-        Ok(listing) => format!("curves {}", listing.records.len()),
-        Err(fault) => refused(sheet, fault.refusal),
+fn check_text(checked: Result<usize, Fault>) -> String {
+    match checked {
+        Ok(curves) => format!("curves {curves}"),
+        Err(fault) => fault_text(fault),
     }
+}
+
+fn fault_text(fault: Fault) -> String {
+    format!("refused {} at {}", fault.refusal.number(), fault.place)
+}
+
+/// `RUNS / RUNS / …`, of which each may be empty: what the check by parts says when all are fed and the sheet is ended.
+fn parts_text(words: &[&str]) -> Result<String, String> {
+    let mut state = [0; NUMBERS];
+    start(&mut state).expect("room for a state");
+    for part in words.split(|word| *word == "/") {
+        feed(&mut state, &bytes(part)?).expect("a state that has not ended");
+    }
+    Ok(check_text(end(&mut state)))
 }
 
 /// `C3 POINTS to RUNS` or `C5 POINTS to RUNS`
@@ -57,7 +73,7 @@ fn changed(mut sheet: Vec<u8>, call: impl Fn(&mut [u8]) -> Result<(), Refusal>) 
 /// A refusal and its place: that of the sheet's fault, if it has one, else 0.
 fn refused(sheet: &[u8], refusal: Refusal) -> String {
     let place = check(sheet).err().map_or(0, |fault| fault.place);
-    format!("refused {} at {place}", refusal.number())
+    fault_text(Fault { refusal, place })
 }
 
 /// `NUMBER of RUNS`
@@ -130,9 +146,33 @@ mod tests {
     }
 
     #[test]
+    fn parts_say_what_the_whole_sheet_does() {
+        for (sheet, said) in [
+            ("", "curves 0"),
+            ("/", "curves 0"),
+            (
+                "(36,1) / (0,1) (67,1) / / (51,1) (0,32) (255,1) / (255,1)",
+                "curves 1",
+            ),
+            ("(36,1) (0,1) / (67,1) (51,1) (0,31)", "refused 2 at 0"),
+            ("(255,2) / (255,7) (0,1) / (255,9)", "refused 3 at 9"),
+            ("(0,4) / (255,4092) /", "refused 4 at 0"),
+            ("(0,4) / (255,4092) / (255,1)", "refused 1 at 0"),
+            ("(0,4) / (255,100000) / (7,3)", "refused 1 at 0"),
+        ] {
+            assert_eq!(said, self::said(&format!("parts {sheet}")));
+            let whole = sheet.replace('/', "");
+            assert_eq!(said, self::said(&format!("check {whole}")));
+        }
+    }
+
+    #[test]
     fn malformed_calls() {
         for bad in [
             "check (256,1)",
+            "check (0,1) / (0,1)",
+            "parts (0,1) / (0,-1)",
+            "parts (0,1)/(0,1)",
             "read (255,2)",
             "append C3 (0,0) to (255,9)",
             "erase 4",

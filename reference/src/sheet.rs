@@ -4,15 +4,23 @@ use crate::curve::Curve;
 use crate::pair::{pair, Pair};
 use crate::refusal::Refusal;
 
-const SHEET_LIMIT: usize = 4_096;
-const ERASED: u8 = 0xFF;
+pub const SHEET_LIMIT: usize = 4_096;
+pub const ERASED: u8 = 0xFF;
 const KINDS: [(&[u8; 2], usize); 2] = [(b"C3", 4), (b"C5", 6)];
+pub const LONGEST_RECORD: usize = record_length(6);
 
 /// The first fault in sheet order, with its place.
 #[derive(Clone, Copy, Debug, PartialEq, Eq)]
 pub struct Fault {
     pub refusal: Refusal,
     pub place: usize,
+}
+
+/// A refusal that has no place.
+impl From<Refusal> for Fault {
+    fn from(refusal: Refusal) -> Fault {
+        Fault { refusal, place: 0 }
+    }
 }
 
 /// A record: its own part of the sheet, and the curve that it holds.
@@ -35,6 +43,11 @@ pub fn check(sheet: &[u8]) -> Result<Listing<'_>, Fault> {
         return Err(fault(Refusal::TooLong, 0));
     }
     list(sheet, 0, Vec::new())
+}
+
+/// How many curves a sheet has.
+pub fn count(sheet: &[u8]) -> Result<usize, Fault> {
+    check(sheet).map(|listing| listing.records.len())
 }
 
 fn fault(refusal: Refusal, place: usize) -> Fault {
@@ -82,7 +95,7 @@ fn record(rest: &[u8]) -> Result<Record<'_>, Refusal> {
 }
 
 /// Length and kind take four bytes, and each point eight.
-fn record_length(points: usize) -> usize {
+const fn record_length(points: usize) -> usize {
     4 + 8 * points
 }
 
@@ -175,7 +188,7 @@ mod tests {
 
     #[test]
     fn short_ends() {
-        assert_eq!(check(&[]).map(|listing| listing.records.len()), Ok(0));
+        assert_eq!(count(&[]), Ok(0));
         assert_eq!(found(&[0xFF]), None);
         assert_eq!(found(&[0x24]), Some((Refusal::Cut, 0)));
         assert_eq!(found(&[0xFF, 0xFF]), None);

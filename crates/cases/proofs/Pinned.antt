@@ -22,7 +22,7 @@ use Rattle.verdict.specs.Promise.{Recognised}
 use Rattle.verdict.proofs.Refusals.{recognised-by}
 use Rattle.record.specs.Numbers.{signedOf, coordinates}
 use Rattle.record.specs.Kinds.{words, numbersOf, pointsIn}
-use Rattle.record.specs.Records.{erased, erasedStep, named, kindIn, allWithin, sizedStep, stepOf}
+use Rattle.record.specs.Records.{erased, erasedEnd, erasedStep, named, kindIn, allWithin, sizedStep, stepOf}
 use Rattle.record.proofs.Formed.{range-is}
 use Rattle.sheet.specs.Survey.{Survey, surveyFrom, survey, soundly, outcome}
 use Rattle.sheet.specs.Promise.{countOf}
@@ -64,7 +64,7 @@ abbrev line : Verdict
 line = pre (point 1 0) (w (point 1 0) (point 0 0) (point 0 0)) (pos 1) (q (pos 1) (pos 0) (pos 0) (pos 0) (pos 0))
 
 sample-reported : SheetHolds (reported sample sampleText)
-unfolding survey surveyFrom stepOf erasedStep kindIn sizedStep named words pointsIn allWithin coordinates signedOf digitsOf if_then_else_
+unfolding survey surveyFrom stepOf erasedStep erasedEnd kindIn sizedStep named words pointsIn allWithin coordinates signedOf digitsOf if_then_else_
 sample-reported = (
   _,
   (
@@ -84,7 +84,7 @@ _and_ : {A B : Type 0} → A → B → A × B
 a and b = (a, b)
 
 pub sheets-hold : AllHold sheets
-unfolding survey surveyFrom stepOf erasedStep kindIn sizedStep named words allWithin coordinates signedOf digitsOf if_then_else_
+unfolding survey surveyFrom stepOf erasedStep erasedEnd kindIn sizedStep named words allWithin coordinates signedOf digitsOf if_then_else_
 sheets-hold =
     refl and full and too-long
     and refl and (refusal.Cut, refl, refl) and (refusal.Cut, refl, refl) and (refusal.Cut, refl, refl)

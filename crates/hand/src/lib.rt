@@ -57,7 +57,8 @@ pub fn refused(area: &mut [i64], r: Refusal) -> i64
     faulted(area, nowhere(r))
 }
 
-fn put(area: &mut [i64], values: &[i64])
+// The values from the area's start; what stands behind them stays.
+pub fn put(area: &mut [i64], values: &[i64])
     requires { ⌜ length (now values) ≤ length (now area) ⌝ }
     ensures { λ _. ⌜ now (area .exit) ≡ now (values .entry) ++ drop (length (now (values .entry))) (now (area .entry)) ⌝ }
 {

@@ -5,14 +5,13 @@
 use mathlib.Core.Path.{_≡_, refl, sym, ap, _∙_, subst}
 use mathlib.Core.Bool.{true}
 use mathlib.Core.Logic.{_↔_}
-use mathlib.Core.List.{List, [], _∷_, _++_}
+use mathlib.Core.List.{List, [], _∷_, _++_, map}
 use Prim.Native.Nat.{ℕ, _+_, _-_, _*_, _/_, _%_, _<_}
 use native.Mathlib.Omega.{arith}
-use native.Mathlib.Nat.{zero-add, div-div-eq-div-mul, div-add-mod'}
+use native.Mathlib.Nat.{div-div-eq-div-mul, div-add-mod'}
 use lib.Dec.{leb}
 use lib.IntN.{ℤ, natAbs}
 use lib.ListN.{length, getD}
-use lib.Seq.{getD-append-add}
 use borrow.Author.Tests.{le-leb, leb-true}
 use Rattle.whole.specs.Number.{Within}
 use Rattle.pair.specs.declared.Pair.{Pair}
@@ -28,9 +27,10 @@ use Rattle.record.specs.Records.{named, allWithin}
 use Rattle.refusal.specs.Answers.{if_then_else_}
 use Rattle.refusal.proofs.Answers.{both-true}
 use Rattle.record.proofs.Table.{row-known, own-name, headOf, head-of-row}
+use Rattle.record.proofs.Words.{words-shifted, coordinates-words}
 use Rattle.record.proofs.Signs.{bits-small, signed-bits}
 use Rattle.record.proofs.Pieces.{encoded-long}
-use Rattle.record.proofs.Shown.{Whole, coordinates-same}
+use Rattle.record.proofs.Shown.{Whole}
 
 -- ---- a number's four bytes
 
@@ -52,7 +52,7 @@ word-back w rest l =
 
 shifted : (n : ℕ) (front bytes : List ℕ) → coordinates n (front ++ bytes) (length front) ≡ coordinates n bytes 0
 shifted n front bytes =
-    coordinates-same n bytes (front ++ bytes) 0 (length front) (λ j _. getD-append-add front bytes j 0 ∙ ap (λ (k : ℕ). getD bytes k 0) (sym (zero-add j)))
+    coordinates-words n (front ++ bytes) (length front) ∙ ap (map signedOf) (words-shifted n front bytes) ∙ sym (coordinates-words n bytes 0)
 
 numbers-back : (xs : List ℤ) → allWithin xs ≡ true → coordinates (length xs) (encoded xs) 0 ≡ xs
 unfolding coordinates allWithin

@@ -1,10 +1,12 @@
 -- What the proofs share, and what other crates may cite.
 pub mod Table
+pub mod Words
 pub mod Signs
 pub mod Loops
 pub mod Pieces
 pub mod Erased
 pub mod Shown
+pub mod Front
 pub mod Formed
 pub mod Putting
 pub mod Kept

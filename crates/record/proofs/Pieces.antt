@@ -1,6 +1,7 @@
 -- Lists that are written over.
 --   put-four                   four stores in a row are one piece
 --   written-long, written-before, written-behind   a piece changes neither the length nor a byte elsewhere
+--   written-twice              a piece and another behind it are one piece
 --   encoded-long               how many bytes numbers take
 --   words-none, words-more, words-all   the numbers of a record, written one after another
 use mathlib.Core.Path.{_≡_, refl, sym, ap, _∙_}
@@ -58,7 +59,7 @@ pub encoded-long : (xs : List ℤ) → length (encoded xs) ≡ 4 * length xs
 encoded-long [] = refl
 encoded-long (x ∷ xs) = let e = encoded-long xs in omega (arith, length-append (wordBytes (bits x)) (encoded xs))
 
-written-twice :
+pub written-twice :
     (s : List ℕ) (at : ℕ) (a b : List ℕ) → at + length a ≤ length s →
     written (written s at a) (at + length a) b ≡ written s at (a ++ b)
 written-twice s at a b l =

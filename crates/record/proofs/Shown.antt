@@ -1,6 +1,7 @@
 -- What a step shows of the bytes at its place, and the bytes that make it.
 --   Holds         a record of a kind stands at the start of the bytes
 --   Shown         what a step says of the bytes: all erased, a fault with its place, or a record
+--   step-record, record-step   a step that is a record has one before it, and the other way.      holds-same   by the bytes of a record alone
 --   fault-near    a fault's place lies within the bytes
 --   fault-placed  LEFTOVER stands at the first byte that is not FF, every other fault at the record's first byte
 --   erased-ends   such bytes end the sheet.             ends-erased   bytes that end the sheet are such
@@ -9,10 +10,9 @@
 --   whole-step    whatever stands behind it, its step is the record.     step-whole   the bytes that a step passes are such a list
 use mathlib.Core.Path.{_≡_, refl, sym, ap, _∙_, subst}
 use mathlib.Core.Bool.{true, false}
-use mathlib.Core.List.{List, [], _∷_, _++_}
-use Prim.Native.Nat.{ℕ, zero, suc, _+_, _*_, _≤_, _<_}
+use mathlib.Core.List.{List, _++_, map}
+use Prim.Native.Nat.{ℕ, _+_, _*_, _≤_, _<_}
 use native.Mathlib.Omega.{arith}
-use native.Mathlib.Nat.{not-suc-le-zero, le-of-suc-le-suc, add-zero}
 use lib.Dec.{eqb}
 use lib.ListN.{length, getD, take, length-append, List·getD-append}
 use lib.Seq.{length-take-le, getD-take}
@@ -21,16 +21,17 @@ use Rattle.refusal.specs.declared.Refusal.{Refusal}
 use Rattle.refusal.specs.declared.Refusal.the-variants as refusal
 use Rattle.refusal.specs.Table.{numberOf}
 use Rattle.refusal.specs.Answers.{if_then_else_}
-use Rattle.record.specs.Numbers.{sizeOf, coordinates}
+use Rattle.record.specs.Numbers.{sizeOf, signedOf, coordinates}
 use Rattle.record.specs.declared.kinds.Kind.{Kind}
 use Rattle.record.specs.declared.kinds.Named.{Named}
 use Rattle.record.specs.declared.kinds.Named.the-variants as named-as
 use Rattle.record.specs.Kinds.{rowOf, kinds, words}
-use Rattle.record.specs.Records.{erased, erasedLength, erasedBytes, erasedStep, named, kindIn, allWithin, sizedStep, kindStep, stepOf}
+use Rattle.record.specs.Records.{erased, erasedLength, erasedBytes, erasedEnd, erasedStep, named, kindIn, allWithin, sizedStep, kindStep, stepOf}
 use Rattle.record.specs.declared.steps.Step.{Step}
 use Rattle.record.specs.declared.steps.Step.the-variants as step
 use Rattle.refusal.proofs.Answers.{by-test}
 use Rattle.record.proofs.Table.{row-known, known-kind, named-is}
+use Rattle.record.proofs.Words.{words-same, coordinates-words}
 use Rattle.record.proofs.Erased.{AllErased, all-erased, erased-at, FirstLeft, first-left}
 
 pub record Holds (k : Kind) (bytes : List ℕ) : Type 0 where
@@ -61,7 +62,7 @@ module _ (bytes : List ℕ) where
   kind-shown named-as.Unknown e = faults {r = refusal.Kind} (λ q. omega arith)
 
   erased-shown : Shown bytes (erasedStep bytes)
-  unfolding erasedStep
+  unfolding erasedStep erasedEnd
   erased-shown = by-test (Shown bytes) _ (λ e. leftover (first-left bytes (ltb-true _ _ e))) (λ e. let l : length bytes ≤ erasedBytes bytes = ltb-false _ _ e in ends (λ i h. erased-at bytes i (omega arith)))
 
   shown : Shown bytes (stepOf bytes)
@@ -79,7 +80,7 @@ module _ (bytes : List ℕ) where
 held-in : {bytes : List ℕ} {k : Kind} → Shown bytes (step.Record k) → Holds k bytes
 held-in (holds h) = h
 
-step-record : (bytes : List ℕ) (k : Kind) → stepOf bytes ≡ step.Record k → Holds k bytes
+pub step-record : (bytes : List ℕ) (k : Kind) → stepOf bytes ≡ step.Record k → Holds k bytes
 step-record bytes k e = held-in (subst (Shown bytes) e (shown bytes))
 
 erased-in : {bytes : List ℕ} → Shown bytes step.Ends → AllErased bytes
@@ -107,7 +108,7 @@ fault-placed bytes r offset e = placed-in (subst (Shown bytes) e (shown bytes))
 
 -- ---- from the bytes to the step
 
-record-step : (k : Kind) (bytes : List ℕ) → Holds k bytes → stepOf bytes ≡ step.Record k
+pub record-step : (k : Kind) (bytes : List ℕ) → Holds k bytes → stepOf bytes ≡ step.Record k
 unfolding stepOf sizedStep if_then_else_
 record-step k bytes h =
     let z = row-known k in
@@ -125,7 +126,7 @@ record-step k bytes h =
     )
 
 pub erased-ends : (bytes : List ℕ) → AllErased bytes → stepOf bytes ≡ step.Ends
-unfolding stepOf erasedStep
+unfolding stepOf erasedStep erasedEnd
 erased-ends bytes f =
     by-test Is _ (λ _. refl) (λ z.
     let n : length bytes ≡ 0 → ⊥ = eqb-false _ _ z in
@@ -146,22 +147,10 @@ erased-ends bytes f =
 -- ---- a record and nothing more
 
 pub coordinates-same : (n : ℕ) (s t : List ℕ) (a b : ℕ) → ((j : ℕ) → j < 4 * n → getD t (b + j) 0 ≡ getD s (a + j) 0) → coordinates n t b ≡ coordinates n s a
-unfolding coordinates
-coordinates-same zero s t a b f = refl
-coordinates-same (suc n) s t a b f =
-    let p : getD t b 0 ≡ getD s a 0 = ap (λ (k : ℕ). getD t k 0) (sym (add-zero b)) ∙ f 0 (omega arith) ∙ ap (λ (k : ℕ). getD s k 0) (add-zero a) in
-    let q = f 1 (omega arith) in
-    let r = f 2 (omega arith) in
-    let u = f 3 (omega arith) in
-    let v = coordinates-same n s t (a + 4) (b + 4) (λ j l.
-    let x : b + 4 + j ≡ b + (4 + j) = omega arith in
-    let y : a + 4 + j ≡ a + (4 + j) = omega arith in
-    ap (λ (k : ℕ). getD t k 0) x ∙ f (4 + j) (omega arith) ∙ ap (λ (k : ℕ). getD s k 0) (sym y))
-    in
-    rw (p, q, r, u, v)
+coordinates-same n s t a b f = coordinates-words n t b ∙ ap (map signedOf) (words-same n s t a b f) ∙ sym (coordinates-words n s a)
 
 -- bytes that agree as far as a record goes hold the same record
-holds-same : (k : Kind) (s t : List ℕ) → rowOf k .size ≤ length t → ((i : ℕ) → i < rowOf k .size → getD t i 0 ≡ getD s i 0) → Holds k s → Holds k t
+pub holds-same : (k : Kind) (s t : List ℕ) → rowOf k .size ≤ length t → ((i : ℕ) → i < rowOf k .size → getD t i 0 ≡ getD s i 0) → Holds k s → Holds k t
 unfolding named
 holds-same k s t l f h =
     let z0 = row-known k .long in

@@ -20,8 +20,8 @@ use Rattle.record.specs.declared.kinds.Kind.the-variants.{Cubic, Quintic
 use Rattle.record.specs.declared.kinds.Named.{Named}
 use Rattle.record.specs.declared.kinds.Named.the-variants as named-as
 use Rattle.record.specs.declared.kinds.Row.{Row}
-use Rattle.record.specs.Numbers.{written}
-use Rattle.record.specs.Kinds.{rowOf, kinds, words, formed}
+use Rattle.record.specs.Numbers.{written, AllBytes}
+use Rattle.record.specs.Kinds.{rowOf, longestRecord, kinds, words, formed}
 use Rattle.record.specs.Records.{named, kindIn}
 
 -- the bytes of a record's head, as far as its name matters
@@ -31,16 +31,17 @@ head a b = 0 ∷ 0 ∷ a ∷ b ∷ []
 pub record RowKnown (k : Kind) : Type 0 where
   pub two : rowOf k .name ≡ getD (rowOf k .name) 0 0 ∷ getD (rowOf k .name) 1 0 ∷ []
   pub found : kindIn kinds (head (getD (rowOf k .name) 0 0) (getD (rowOf k .name) 1 0)) ≡ named-as.Kind k
+  pub name-bytes : AllBytes (rowOf k .name)
   pub long : 4 < rowOf k .size
-  pub short : rowOf k .size ≤ rowOf Quintic .size
+  pub short : rowOf k .size ≤ longestRecord
   pub holds : 4 + 4 * words k ≤ rowOf k .size
   pub curve-long : rowOf k .curve ≡ true → rowOf Cubic .size ≤ rowOf k .size
   pub curve-holds : rowOf k .curve ≡ true → 4 + 4 * words k ≡ rowOf k .size
 
 pub row-known : (k : Kind) → RowKnown k
 unfolding kindIn named words if_then_else_
-row-known Cubic = record { two = refl; found = refl; long = omega arith; short = omega arith; holds = omega arith; curve-long = λ _. omega arith; curve-holds = λ _. refl }
-row-known Quintic = record { two = refl; found = refl; long = omega arith; short = omega arith; holds = omega arith; curve-long = λ _. omega arith; curve-holds = λ _. refl }
+row-known Cubic = record { two = refl; found = refl; name-bytes = (omega arith, (omega arith, tt)); long = omega arith; short = omega arith; holds = omega arith; curve-long = λ _. omega arith; curve-holds = λ _. refl }
+row-known Quintic = record { two = refl; found = refl; name-bytes = (omega arith, (omega arith, tt)); long = omega arith; short = omega arith; holds = omega arith; curve-long = λ _. omega arith; curve-holds = λ _. refl }
 
 -- a name is looked for by its two bytes alone
 same-name : (k : Kind) (s t : List ℕ) → getD s 2 0 ≡ getD t 2 0 → getD s 3 0 ≡ getD t 3 0 → named k s ≡ named k t

@@ -1,5 +1,6 @@
 -- The table of kinds, and the bytes of a record.
 --   rowOf        a kind's row: its name of two bytes, the length of its records, whether they hold coordinates, whether they are curves
+--   longestRecord   no kind's record has more bytes
 --   kinds        the kinds, in the order in which a name is looked for
 --   words        how many coordinates a record of a kind holds, behind the four bytes of its head
 --   kindOf       the kind of a curve
@@ -26,6 +27,9 @@ use Rattle.record.specs.Numbers.{coordinates, paired, encoded}
 abbrev pub rowOf : Kind → Row
 rowOf Cubic = record { name = 67 ∷ 51 ∷ []; size = 36; coordinates = true; curve = true }
 rowOf Quintic = record { name = 67 ∷ 53 ∷ []; size = 52; coordinates = true; curve = true }
+
+abbrev pub longestRecord : ℕ
+longestRecord = 52
 
 abbrev pub kinds : List Kind
 kinds = Cubic ∷ Quintic ∷ []

@@ -8,8 +8,11 @@
 --   wordBytes    the four bytes of such a number
 --   encoded      signed numbers as bytes, four each
 --   written      bytes over a list, from a place on
+--   wordsIn      so many words, from a place on; beyond the last byte stands 0
+--   bytesIn      the bytes of words
+--   AllBytes     every number of a list is below 256
 use mathlib.Core.List.{List, [], _∷_, _++_}
-use Prim.Native.Nat.{ℕ, zero, suc, _+_, _-_, _*_, _/_, _%_}
+use Prim.Native.Nat.{ℕ, zero, suc, _+_, _-_, _*_, _/_, _%_, _<_}
 use lib.ListN.{length, getD, take, drop}
 use lib.IntN.{ℤ, pos, negsuc, negℤ}
 use lib.Dec.{ltb}
@@ -52,3 +55,15 @@ encoded (x ∷ xs) = wordBytes (bits x) ++ encoded xs
 
 abbrev pub written : List ℕ → ℕ → List ℕ → List ℕ
 written s at bytes = take at s ++ (bytes ++ drop (at + length bytes) s)
+
+unfoldable pub wordsIn : ℕ → List ℕ → ℕ → List ℕ
+wordsIn zero bytes at = []
+wordsIn (suc n) bytes at = wordAt bytes at ∷ wordsIn n bytes (at + 4)
+
+abbrev pub bytesIn : List ℕ → List ℕ
+bytesIn [] = []
+bytesIn (w ∷ ws) = wordBytes w ++ bytesIn ws
+
+abbrev pub AllBytes : List ℕ → Type 0
+AllBytes [] = Unit {0}
+AllBytes (b ∷ bytes) = (b < 256) × AllBytes bytes

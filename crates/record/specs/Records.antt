@@ -4,6 +4,7 @@
 --   named        the two bytes after the length are a kind's name
 --   kindIn       the kind that they name
 --   allWithin    every number is from −20,000 to 20,000
+--   erasedEnd    the test behind an erased length, by how many bytes FF come first and how many bytes are left
 --   erasedStep, sizedStep, kindStep   the tests behind an erased length, of a known kind, and of the kind
 --   stepOf       the step. Places count from the first byte left
 use mathlib.Core.Bool.{Bool, true, not, _&&_}
@@ -37,8 +38,11 @@ erasedBytes [] = 0
 erasedBytes (b ∷ bytes) = if eqb b erased then suc (erasedBytes bytes) else 0
 
 -- what an erased length begins: every byte left must be FF
+unfoldable pub erasedEnd : ℕ → ℕ → Step
+erasedEnd erasedFirst left = if ltb erasedFirst left then Fault refusal.Leftover erasedFirst else Ends
+
 unfoldable pub erasedStep : List ℕ → Step
-erasedStep rest = if ltb (erasedBytes rest) (length rest) then Fault refusal.Leftover (erasedBytes rest) else Ends
+erasedStep rest = erasedEnd (erasedBytes rest) (length rest)
 
 unfoldable pub named : Kind → List ℕ → Bool
 named k rest = eqb (getD rest 2 0) (getD (rowOf k .name) 0 0) && eqb (getD rest 3 0) (getD (rowOf k .name) 1 0)

@@ -2,6 +2,9 @@
 ghost use mathlib.Core.Path.{_≡_};
 ghost use Rattle.record.specs.Kinds.{rowOf, words as wordsOf};
 
+// No kind's record has more bytes than this.
+pub const LONGEST_RECORD: usize = 52;
+
 pub enum Kind {
     Cubic,
     Quintic,

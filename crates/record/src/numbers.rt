@@ -19,7 +19,7 @@ pub(crate) fn half_at(bytes: &[u8], at: usize) -> u64
     wide(bytes[at]) + 256 * wide(bytes[at + 1])
 }
 
-pub(crate) fn word_at(bytes: &[u8], at: usize) -> u64
+pub fn word_at(bytes: &[u8], at: usize) -> u64
     requires { ⌜ at + 4 ≤ length (now bytes) ⌝ }
     ensures { λ r. ⌜ (r ≡ wordAt (now (bytes .entry)) at) × (r < 4294967296) ⌝ }
 {
@@ -54,7 +54,7 @@ pub(crate) fn bits(x: i64) -> u64
     }
 }
 
-pub(crate) fn put_word(bytes: &mut [u8], at: usize, w: u64)
+pub fn put_word(bytes: &mut [u8], at: usize, w: u64)
     requires { ⌜ at + 4 ≤ length (now bytes) ⌝ }
     ensures { λ _. ⌜ now (bytes .exit) ≡ written (now (bytes .entry)) at (wordBytes w) ⌝ }
 {

@@ -4,7 +4,7 @@ ghost use Prim.Native.Nat.{_+_, _*_, _≤_};
 ghost use lib.ListN.{length};
 ghost use Rattle.record.specs.Numbers.{coordinates};
 ghost use Rattle.record.specs.Kinds.{kinds};
-ghost use Rattle.record.specs.Records.{erasedBytes, erasedStep, named, kindIn, allWithin, sizedStep, kindStep, stepOf};
+ghost use Rattle.record.specs.Records.{erasedBytes, erasedEnd, erasedStep, named, kindIn, allWithin, sizedStep, kindStep, stepOf};
 use crate::kinds::Kind;
 use crate::kinds::Named;
 use crate::kinds::row_of;
@@ -30,7 +30,7 @@ pub enum Step {
 }
 
 // How many bytes FF `rest` begins with.
-fn erased_bytes(rest: &[u8]) -> usize
+pub fn erased_bytes(rest: &[u8]) -> usize
     ensures { λ r. ⌜ r ≡ erasedBytes (now (rest .entry)) ⌝ }
 {
     let mut i: usize = 0;
@@ -43,15 +43,21 @@ fn erased_bytes(rest: &[u8]) -> usize
     i
 }
 
-fn erased_step(rest: &[u8]) -> Step
-    ensures { λ r. ⌜ r ≡ erasedStep (now (rest .entry)) ⌝ }
+// What an erased length begins, by how many bytes FF come first and how many bytes are left.
+pub fn erased_end(erased: usize, left: usize) -> Step
+    ensures { λ r. ⌜ r ≡ erasedEnd erased left ⌝ }
 {
-    let erased = erased_bytes(rest);
-    if erased < rest.len() {
+    if erased < left {
         Step::Fault(Refusal::Leftover, erased)
     } else {
         Step::Ends
     }
+}
+
+fn erased_step(rest: &[u8]) -> Step
+    ensures { λ r. ⌜ r ≡ erasedStep (now (rest .entry)) ⌝ }
+{
+    erased_end(erased_bytes(rest), rest.len())
 }
 
 fn is_named(rest: &[u8], kind: Kind) -> bool

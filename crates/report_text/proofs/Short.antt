@@ -1,5 +1,6 @@
 -- How long a report can be.
 --   line-short                    a line of a curve has at most 47 bytes
+--   refused-short, first-short    the line of a faulty sheet has at most 19 bytes, the first line of a sound one at most 10
 --   report-short                  a report has at most 5,321 bytes
 --   room-enough                   so an area of that length is not refused, and
 --   written-short                 no more bytes are written
@@ -11,6 +12,7 @@ use lib.IntN.{ℤ, pos, negsuc, natAbs}
 use lib.ListN.{length, length-append}
 use lib.Signed.{_≤ℤ_}
 use Rattle.refusal.specs.declared.Refusal.{Refusal}
+use Rattle.refusal.specs.declared.Fault.{Fault}
 use Rattle.refusal.specs.Table.{numberOf}
 use Rattle.refusal.specs.Answers.{Answer, refused, given, with-given}
 use Rattle.refusal.proofs.Laws.{number-small}
@@ -32,7 +34,7 @@ use Rattle.text.specs.Texts.{signed, labelled, bytes, decimal}
 use Rattle.text.specs.declared.TextAnswer.the-variants as text
 use Rattle.text.proofs.Decimals.{decimal-few}
 use Rattle.text.proofs.Held.{asked-written, room-enough as enough}
-use Rattle.report_text.specs.Texts.{firstLine, kindText, verdictText}
+use Rattle.report_text.specs.Texts.{firstLine, kindText, verdictText, refusedLine}
 use Rattle.report_text.specs.Promise.{Line, Lines, ReportOf, Report, Reported}
 
 -- ---- the numbers
@@ -97,34 +99,48 @@ lines-short s (suc n) t (e, l, h, k, is) m =
 
 -- ---- the report
 
+pub refused-short : (s : List ℕ) (f : Fault) → outcome s ≡ refused f → length (refusedLine f) ≤ 19
+refused-short s f o =
+    let front = labelled "refused " (pos (numberOf (f .refusal))) in
+    let back = labelled " at " (pos (f .place)) in
+    omega (
+      arith,
+      length-append (front ++ back) (bytes "\n"),
+      length-append front back,
+      length-append (bytes "refused ") (decimal (numberOf (f .refusal))),
+      length-append (bytes " at ") (decimal (f .place)),
+      decimal-few 1 (numberOf (f .refusal)) (omega (arith, number-small (f .refusal))),
+      decimal-few 3 (f .place) (omega (arith, fault-near s f o)),
+    )
+
+-- a sound sheet has at most 113 curves
+few : (s : List ℕ) (es : List Entry) → outcome s ≡ given es → countOf es ≤ 113
+few s es o = subst (λ (x : List Entry). countOf x ≤ 113) (sound-of s o .1) (curves-few s)
+
+pub first-short : (s : List ℕ) (es : List Entry) → outcome s ≡ given es → length (firstLine (countOf es)) ≤ 10
+first-short s es o =
+    let count = countOf es in
+    omega (
+      arith,
+      length-append (labelled "sheet " (pos count)) (bytes "\n"),
+      length-append (bytes "sheet ") (decimal count),
+      decimal-few 2 count (omega (arith, few s es o)),
+    )
+
 pub report-short : (s t : List ℕ) → Report s t → length t ≤ 5321
 report-short s t = by (outcome s) refl
   where
     by : (a : Answer (List Entry)) → outcome s ≡ a → ReportOf s (with-given countOf a) t → length t ≤ 5321
-    by (refused f) o h =
-        let front = labelled "refused " (pos (numberOf (f .refusal))) in
-        let back = labelled " at " (pos (f .place)) in
-        omega (
-          arith,
-          ap length h,
-          length-append (front ++ back) (bytes "\n"),
-          length-append front back,
-          length-append (bytes "refused ") (decimal (numberOf (f .refusal))),
-          length-append (bytes " at ") (decimal (f .place)),
-          decimal-few 1 (numberOf (f .refusal)) (omega (arith, number-small (f .refusal))),
-          decimal-few 3 (f .place) (omega (arith, fault-near s f o)),
-        )
+    by (refused f) o h = omega (arith, ap length h, refused-short s f o)
     by (given es) o (l, h, is) =
         let count = countOf es in
-        let few : count ≤ 113 = subst (λ (x : List Entry). countOf x ≤ 113) (sound-of s o .1) (curves-few s) in
         omega (
           arith,
           ap length is,
           length-append (firstLine count) l,
-          length-append (labelled "sheet " (pos count)) (bytes "\n"),
-          length-append (bytes "sheet ") (decimal count),
-          decimal-few 2 count (omega arith),
-          lines-short s count l h (omega arith),
+          first-short s es o,
+          few s es o,
+          lines-short s count l h (omega (arith, few s es o)),
         )
 
 pub room-enough : (s before after : List ℕ) (r : Refusal) → 5321 ≤ length before → Reported s before after (text.Refused r) → ⊥

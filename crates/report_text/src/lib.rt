@@ -1,14 +1,13 @@
 // The report of a parameter sheet, as text in a lent byte area.
 mod lines;
 
+pub use lines::put_first_line;
 use lines::put_lines;
 pub use lines::put_refused;
 use sheet::Checked;
 use text::Place;
 use text::TextAnswer;
 use text::ended;
-use text::put;
-use text::put_labelled;
 ghost use mathlib.Core.Path.{_≡_};
 ghost use Rattle.refusal.specs.Answers.{given, with-given};
 ghost use Rattle.sheet.specs.Survey.{outcome};
@@ -22,8 +21,7 @@ fn put_sound(area: &mut [u8], place: Place, sheet: &[u8], count: usize) -> Place
     requires { ⌜ with-given countOf (outcome (now sheet)) ≡ given count ⌝ }
     ensures { λ r. ⌜ WritesReport (now (area .entry)) place (now (sheet .entry)) (given count) (now (area .exit)) r ⌝ }
 {
-    let end = put_labelled(area, place, b"sheet ", count as u64);
-    let line = put(area, end, b"\n");
+    let line = put_first_line(area, place, count);
     put_lines(area, line, sheet, count)
 }
 

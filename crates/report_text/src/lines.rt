@@ -7,7 +7,7 @@ ghost use Rattle.verdict.specs.Verdicts.{PreimageOf};
 ghost use Rattle.sheet.specs.Survey.{outcome};
 ghost use Rattle.sheet.specs.Promise.{countOf};
 ghost use Rattle.text.specs.Steps.{Writes};
-ghost use Rattle.report_text.specs.Texts.{kindText, verdictText, lineText, refusedLine};
+ghost use Rattle.report_text.specs.Texts.{firstLine, kindText, verdictText, lineText, refusedLine};
 ghost use Rattle.report_text.specs.Steps.{WritesJudged, WritesLines};
 use curve::Curve;
 use measure::length_by;
@@ -68,6 +68,14 @@ fn put_line(area: &mut [u8], place: Place, number: usize, curve: Curve) -> Place
     let verdict = put_kind(area, kind, curve);
     let end = put_verdict(area, verdict, curve);
     put(area, end, b"\n")
+}
+
+// The first line of a sound sheet, which has so many curves.
+pub fn put_first_line(area: &mut [u8], place: Place, count: usize) -> Place
+    ensures { λ r. ⌜ Writes (now (area .entry)) place (firstLine count) (now (area .exit)) r ⌝ }
+{
+    let line = put_labelled(area, place, b"sheet ", count as u64);
+    put(area, line, b"\n")
 }
 
 // The line of a faulty sheet, of which nothing but the fault is said.

@@ -1,6 +1,7 @@
 -- Sheets that are known without reading them.
 --   laid             the records of curves, one behind another from a place on
 --   AllInRange, AllMinusOne, AllMinusOnes   what is asked of the curves
+--   laid-listed      of curves in range they are whole, each where the one before it ends
 --   written-sheet    curves in range, one after another, and an erased tail: the sheet has just these
 --   erased-sheet     an erased sheet of any allowed length has no curves
 --   minus-bytes      points that are all (−1, −1) are bytes FF and nothing else, and yet
@@ -34,7 +35,7 @@ abbrev pub AllInRange : List Curve → Type 0
 AllInRange [] = Unit {0}
 AllInRange (c ∷ cs) = InRange (pointsOf c) × AllInRange cs
 
-laid-listed : (at : ℕ) (cs : List Curve) → AllInRange cs → Listed at (laid at cs)
+pub laid-listed : (at : ℕ) (cs : List Curve) → AllInRange cs → Listed at (laid at cs)
 laid-listed at [] r = tt
 laid-listed at (c ∷ cs) r = (refl, record-whole c (range-is (pointsOf c) .1 (r .0)), laid-listed (at + length (recordOf c)) cs (r .1))
 

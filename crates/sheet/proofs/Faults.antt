@@ -1,6 +1,7 @@
 -- How many curves a sheet can have, and where and what its faults can be.
 --   curves-few, check-few   a sheet has at most 113 curves, and `check` counts no more
 --   Placed, fault-placed    LEFTOVER stands at the first byte behind the records that is not FF, every other fault where the records end
+--   fault-inside            a fault stands within the bytes of a sheet that is not too long
 --   fault-near              a faulty sheet's fault stands within 4,096 bytes
 --   fault-number            and has one of the first six numbers of the table
 use mathlib.Core.Path.{_≡_, refl, sym, ap, _∙_, subst}
@@ -19,7 +20,7 @@ use Rattle.record.specs.declared.kinds.Kind.the-variants.{Cubic}
 use Rattle.record.specs.declared.kinds.Named.{Named}
 use Rattle.record.specs.declared.kinds.Named.the-variants as named-as
 use Rattle.record.specs.Kinds.{rowOf, kinds}
-use Rattle.record.specs.Records.{longest, erasedStep, kindIn, sizedStep, kindStep, stepOf}
+use Rattle.record.specs.Records.{longest, erasedEnd, erasedStep, kindIn, sizedStep, kindStep, stepOf}
 use Rattle.record.specs.declared.steps.Step.{Step}
 use Rattle.record.specs.declared.steps.Step.the-variants as step
 use Rattle.record.proofs.Shown.{fault-near as step-near, fault-placed as step-placed}
@@ -67,13 +68,16 @@ ended-near at tail (step.Fault r offset) f q e = omega (arith, step-near tail r 
 ended-near at tail (step.Record k) f q e = absurd e
 
 module _ (s : List ℕ) where
+  pub fault-inside : (f : Fault) → length s ≤ longest → survey s .ending ≡ Faulty f → f .place ≤ length s
+  fault-inside f l e =
+      let p = sheet-parts s l in
+      let near = ended-near (survey s .end) (p .tail) (stepOf (p .tail)) f refl (subst (λ (how : Ending). Ended (survey s .end) (stepOf (p .tail)) how) e (p .last)) in
+      omega (arith, near, p .end-is, ap length (p .parts), length-append (flat (survey s .records)) (p .tail))
+
   fault-place : (f : Fault) → survey s .ending ≡ Faulty f → f .place ≤ longest
   fault-place f e =
       by-order (length s) longest
-      (λ l.
-      let p = sheet-parts s l in
-      let near = ended-near (survey s .end) (p .tail) (stepOf (p .tail)) f refl (subst (λ (how : Ending). Ended (survey s .end) (stepOf (p .tail)) how) e (p .last)) in
-      omega (arith, near, p .end-is, ap length (p .parts), length-append (flat (survey s .records)) (p .tail)))
+      (λ l. omega (arith, l, fault-inside f l e))
       (λ l. omega (arith, ap (λ (x : Fault). x .place) (faulty-once (sym (ap (λ (v : Survey). v .ending) (survey-long s l)) ∙ e))))
 
   pub fault-near : (f : Fault) → outcome s ≡ refused f → f .place ≤ longest
@@ -129,7 +133,7 @@ kind-number rest (named-as.Kind k) = sized-number k rest
 kind-number rest named-as.Unknown = omega arith
 
 erased-number : (rest : List ℕ) → FirstSix (erasedStep rest)
-unfolding erasedStep
+unfolding erasedStep erasedEnd
 erased-number rest = by-test FirstSix _ (λ _. omega arith) (λ _. tt)
 
 step-number : (rest : List ℕ) → FirstSix (stepOf rest)

@@ -14,7 +14,7 @@ use mathlib.Core.Logic.{_↔_, _⊎_, inl, inr, ⊎-elim}
 use mathlib.Core.List.{List, [], _∷_, _++_}
 use Prim.Native.Nat.{ℕ, zero, suc, _+_, _-_, _*_, _/_, _≤_, _<_}
 use native.Mathlib.Omega.{arith}
-use lib.ListN.{length, length-append}
+use lib.ListN.{length}
 use borrow.Author.Tests.{not-true, not-false, ltb-true, ltb-false}
 use Rattle.refusal.specs.declared.Refusal.the-variants as refusal
 use Rattle.refusal.specs.Table.{Cause, First}
@@ -36,7 +36,7 @@ use Rattle.sheet.specs.declared.Reading.{Reading}
 use Rattle.sheet.specs.declared.Reading.the-variants as reading
 use Rattle.sheet.specs.Survey.{Entry, Survey, survey, soundly, outcome, curves, nth, chosen}
 use Rattle.sheet.specs.Promise.{answerOfReading, pointsOfEntry, part, appending, Reads, Finds}
-use Rattle.sheet.proofs.Surveys.{flat, short-of, sheet-parts}
+use Rattle.sheet.proofs.Surveys.{end-within}
 use Rattle.sheet.proofs.Standing.{nth-last, nth-other, chosen-sound, chosen-of, entry-long}
 use Rattle.sheet.proofs.Changed.{appending-sound}
 use Rattle.sheet.proofs.Appended.{entryOf, survey-after, curves-one}
@@ -115,9 +115,7 @@ module _ (s : List ℕ) (sound : survey s .ending ≡ Sound) where
 
   module _ (c : Curve) (t : List ℕ) (done : appending s c ≡ given t) where
     listed : (allWithin (numbersOf (pointsOf c)) ≡ true) × (survey t ≡ record { records = survey s .records ++ (entryOf (survey s .end) c ∷ []); end = survey s .end + length (recordOf c); ending = Sound })
-    listed =
-        let p = sheet-parts s (short-of s sound) in
-        survey-after s c t sound (omega (arith, p .end-is, ap length (p .parts), length-append (flat (survey s .records)) (p .tail))) (sym done ∙ appending-sound s c sound)
+    listed = survey-after s c t sound (end-within s) (sym done ∙ appending-sound s c sound)
 
     pub append-listed : survey t ≡ record { records = survey s .records ++ (entryOf (survey s .end) c ∷ []); end = survey s .end + length (recordOf c); ending = Sound }
     append-listed = listed .1

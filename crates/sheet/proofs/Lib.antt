@@ -1,5 +1,6 @@
--- What the proofs share, and, in Places, Once, Laws, Kept, Ahead, Faults and Examples, what other crates may cite.
+-- What the proofs share, and, in Surveys, Moved, Places, Once, Laws, Kept, Ahead, Faults and Examples, what other crates may cite.
 pub mod Surveys
+pub mod Moved
 pub mod Standing
 pub mod Passed
 pub mod Places

@@ -25,27 +25,24 @@ use Rattle.record.proofs.Shown.{step-whole}
 use Rattle.sheet.specs.declared.walks.Ending.{Ending}
 use Rattle.sheet.specs.declared.walks.Ending.the-variants.{Sound, Faulty}
 use Rattle.sheet.specs.Survey.{Entry, Survey, entryAt, nothing, before, survey, curves, nth}
-use Rattle.sheet.specs.Steps.{Asked, nowhere, there, Walks}
-use Rattle.sheet.proofs.Surveys.{reads, reads-ends, reads-fault, reads-record, survey-long, survey-short}
+use Rattle.sheet.specs.Walks.{Asked, nowhere, there, Walks}
+use Rattle.sheet.proofs.Surveys.{behind, reads, reads-ends, reads-fault, reads-record, survey-long, survey-short}
 use Rattle.sheet.proofs.Standing.{curves-append, nth-last, nth-other}
 
--- what is ahead, behind the records that were passed
-abbrev after : List Entry → Survey → Survey
-after behind v = record { records = behind ++ v .records; end = v .end; ending = v .ending }
+behind-one : (es : List Entry) (e : Entry) (v : Survey) → behind es (before e v) ≡ behind (es ++ (e ∷ [])) v
+behind-one es e v = ap (λ (fs : List Entry). record { records = fs; end = v .end; ending = v .ending }) (sym (append-assoc es (e ∷ []) (v .records)))
 
-after-one : (behind : List Entry) (e : Entry) (v : Survey) → after behind (before e v) ≡ after (behind ++ (e ∷ [])) v
-after-one behind e v = ap (λ (es : List Entry). record { records = es; end = v .end; ending = v .ending }) (sym (append-assoc behind (e ∷ []) (v .records)))
-
+-- `records` are those that were passed
 pub record Passed (s : List ℕ) (number at count from to : ℕ) : Type 0 where
-  pub behind : List Entry
-  pub ahead : reads 0 s ≡ after behind (reads at (drop at s))
+  pub records : List Entry
+  pub ahead : reads 0 s ≡ behind records (reads at (drop at s))
   pub room : at ≤ length s
-  pub count-is : count ≡ length (curves behind)
+  pub count-is : count ≡ length (curves records)
   pub few : count ≤ at
-  pub asked : Asked from to (nth number (curves behind))
+  pub asked : Asked from to (nth number (curves records))
 
 pub passed-none : (s : List ℕ) (number : ℕ) → Passed s number 0 0 0 0
-passed-none s number = record { behind = []; ahead = refl; room = omega arith; count-is = refl; few = omega arith; asked = nowhere refl }
+passed-none s number = record { records = []; ahead = refl; room = omega arith; count-is = refl; few = omega arith; asked = nowhere refl }
 
 pub walked-long : (s : List ℕ) (number : ℕ) {f : Fault} → longest < length s → f ≡ record { refusal = refusal.TooLong; place = 0 } →
     Walks s number (record { curves = 0; end = 0; from = 0; to = 0; ending = Faulty f })
@@ -66,8 +63,8 @@ rest-is s at = take-all (length s - at) (drop at s) (omega (arith, length-drop a
 module _ {s : List ℕ} {number at count from to : ℕ} (p : Passed s number at count from to) where
   walked-as : (how : Ending) → length s ≤ longest → reads at (drop at s) ≡ nothing at how → Walks s number (record { curves = count; end = at; from = from; to = to; ending = how })
   walked-as how l e =
-      let v : survey s ≡ record { records = p .behind; end = at; ending = how } =
-      survey-short s l ∙ p .ahead ∙ ap (after (p .behind)) e ∙ ap (λ (es : List Entry). record { records = es; end = at; ending = how }) (append-nil (p .behind))
+      let v : survey s ≡ record { records = p .records; end = at; ending = how } =
+      survey-short s l ∙ p .ahead ∙ ap (behind (p .records)) e ∙ ap (λ (es : List Entry). record { records = es; end = at; ending = how }) (append-nil (p .records))
       in
       record {
         curves-is = p .count-is ∙ sym (ap (λ (v : Survey). length (curves (v .records))) v);
@@ -95,43 +92,43 @@ module _ {s : List ℕ} {number at count from to : ℕ} (p : Passed s number at 
     farther = let w = step-whole (drop at s) k e in (omega (arith, w .1), omega (arith, w .2, length-drop at s, p .room))
 
     -- with the record behind, whatever was asked for
-    passed-with : (count′ from′ to′ : ℕ) → count′ ≤ count + 1 → count′ ≡ length (curves (p .behind ++ (here ∷ []))) →
-        Asked from′ to′ (nth number (curves (p .behind ++ (here ∷ [])))) → Passed s number (at + size) count′ from′ to′
+    passed-with : (count′ from′ to′ : ℕ) → count′ ≤ count + 1 → count′ ≡ length (curves (p .records ++ (here ∷ []))) →
+        Asked from′ to′ (nth number (curves (p .records ++ (here ∷ [])))) → Passed s number (at + size) count′ from′ to′
     passed-with count′ from′ to′ f c a =
         record {
-          behind = p .behind ++ (here ∷ []);
+          records = p .records ++ (here ∷ []);
           ahead =
-              p .ahead ∙ ap (after (p .behind)) (reads-record at (drop at s) k e)
-              ∙ after-one (p .behind) here (reads (at + size) (drop size (drop at s)))
-              ∙ ap (λ (rest : List ℕ). after (p .behind ++ (here ∷ [])) (reads (at + size) rest)) (drop-drop size at s);
+              p .ahead ∙ ap (behind (p .records)) (reads-record at (drop at s) k e)
+              ∙ behind-one (p .records) here (reads (at + size) (drop size (drop at s)))
+              ∙ ap (λ (rest : List ℕ). behind (p .records ++ (here ∷ [])) (reads (at + size) rest)) (drop-drop size at s);
           room = farther .1;
           count-is = c;
           few = omega (arith, p .few, f, farther .0);
           asked = a;
         }
 
-    one-more : rowOf k .curve ≡ true → curves (p .behind ++ (here ∷ [])) ≡ curves (p .behind) ++ (here ∷ [])
+    one-more : rowOf k .curve ≡ true → curves (p .records ++ (here ∷ [])) ≡ curves (p .records) ++ (here ∷ [])
     unfolding if_then_else_
-    one-more c = curves-append (p .behind) (here ∷ []) ∙ ap (λ (b : Bool). curves (p .behind) ++ (if b then here ∷ [] else [])) c
+    one-more c = curves-append (p .records) (here ∷ []) ∙ ap (λ (b : Bool). curves (p .records) ++ (if b then here ∷ [] else [])) c
 
-    none-more : rowOf k .curve ≡ false → curves (p .behind ++ (here ∷ [])) ≡ curves (p .behind)
+    none-more : rowOf k .curve ≡ false → curves (p .records ++ (here ∷ [])) ≡ curves (p .records)
     unfolding if_then_else_
-    none-more c = curves-append (p .behind) (here ∷ []) ∙ ap (λ (b : Bool). curves (p .behind) ++ (if b then here ∷ [] else [])) c ∙ append-nil (curves (p .behind))
+    none-more c = curves-append (p .records) (here ∷ []) ∙ ap (λ (b : Bool). curves (p .records) ++ (if b then here ∷ [] else [])) c ∙ append-nil (curves (p .records))
 
-    counted : rowOf k .curve ≡ true → count + 1 ≡ length (curves (p .behind ++ (here ∷ [])))
-    counted c = omega (arith, p .count-is, ap length (one-more c), length-append (curves (p .behind)) (here ∷ []))
+    counted : rowOf k .curve ≡ true → count + 1 ≡ length (curves (p .records ++ (here ∷ [])))
+    counted c = omega (arith, p .count-is, ap length (one-more c), length-append (curves (p .records)) (here ∷ []))
 
     pub passed-here : rowOf k .curve ≡ true → count + 1 ≡ number → Passed s number (at + size) (count + 1) at (at + size)
     passed-here c n =
-        let m : number ≡ suc (length (curves (p .behind))) = omega (arith, p .count-is) in
-        let is : nth number (curves (p .behind ++ (here ∷ []))) ≡ _ = ap (λ (es : List Entry). nth number es) (one-more c) ∙ ap (λ (n : ℕ). nth n (curves (p .behind) ++ (here ∷ []))) m ∙ nth-last (curves (p .behind)) here in
+        let m : number ≡ suc (length (curves (p .records))) = omega (arith, p .count-is) in
+        let is : nth number (curves (p .records ++ (here ∷ []))) ≡ _ = ap (λ (es : List Entry). nth number es) (one-more c) ∙ ap (λ (n : ℕ). nth n (curves (p .records) ++ (here ∷ []))) m ∙ nth-last (curves (p .records)) here in
         passed-with (count + 1) at (at + size) (omega arith) (counted c)
         (subst (Asked at (at + size)) (sym is) (there refl (ap (λ (n : ℕ). at + n) (sym (step-whole (drop at s) k e .0 .long)))))
 
     pub passed-past : rowOf k .curve ≡ true → (count + 1 ≡ number → ⊥) → Passed s number (at + size) (count + 1) from to
     passed-past c n =
-        let is : nth number (curves (p .behind ++ (here ∷ []))) ≡ nth number (curves (p .behind)) =
-        ap (λ (es : List Entry). nth number es) (one-more c) ∙ nth-other number (curves (p .behind)) here (λ m. n (omega (arith, p .count-is)))
+        let is : nth number (curves (p .records ++ (here ∷ []))) ≡ nth number (curves (p .records)) =
+        ap (λ (es : List Entry). nth number es) (one-more c) ∙ nth-other number (curves (p .records)) here (λ m. n (omega (arith, p .count-is)))
         in
         passed-with (count + 1) from to (omega arith) (counted c) (subst (Asked from to) (sym is) (p .asked))
 

@@ -2,17 +2,22 @@
 --   same-bound                the bound in the definition is no bound once it is above the bytes left
 --   reads                     what is found in what is left at a place
 --   reads-ends, reads-fault, reads-record   what a step at the place makes of it
+--   reads-stops               where no record stands, none is found
 --   survey-long, survey-short the survey is TOO LONG, or what is read from place 0
 --   flat                      records one after another
+--   behind                    what is found behind some records
 --   Listed                    whole records that stand one behind another, from a place on
 --   Ended                     how the records end, by the step behind them
 --   Parts, parts-of           what is left at a place is its records, and what stands behind them
+--   reads-flat                whole records are found as they stand, and then what is behind them
 --   survey-of                 a sheet of whole records and an erased tail has just these
 --   sound-of, faulty-of       what an outcome says of the survey.      short-of   a sound sheet is not too long
 --   faulty-once               records end with one fault
 --   sheet-parts               a sheet that is not too long is its records, and what stands behind them
+--   parts-tail                that begins where the records end.      no-record-behind   and no record stands there
+--   end-within                the records end within the sheet
 use mathlib.Core.Path.{_≡_, refl, sym, ap, _∙_, subst}
-use mathlib.Core.List.{List, [], _∷_, _++_, append-assoc}
+use mathlib.Core.List.{List, [], _∷_, _++_, append-assoc, append-nil}
 use Prim.Native.Nat.{ℕ, zero, suc, _+_, _≤_, _<_}
 use native.Mathlib.Omega.{arith}
 use native.Mathlib.Nat.{not-suc-le-zero}
@@ -79,6 +84,18 @@ module _ (at : ℕ) (rest : List ℕ) where
       unfolds (length rest) at rest
       ∙ rw e (ap (before (entryAt at rest k)) (same-bound (length rest) (suc (length (drop size rest))) (at + size) (drop size rest) (omega arith) (omega arith)))
 
+-- where no record stands, none is found
+pub reads-stops : (at : ℕ) (rest : List ℕ) → ((k : Kind) → stepOf rest ≡ step.Record k → ⊥) → (reads at rest .records ≡ []) × (reads at rest .end ≡ at)
+reads-stops at rest n = by (stepOf rest) refl
+  where
+    none : {how : Ending} → reads at rest ≡ nothing at how → (reads at rest .records ≡ []) × (reads at rest .end ≡ at)
+    none e = (ap (λ (v : Survey). v .records) e, ap (λ (v : Survey). v .end) e)
+
+    by : (x : Step) → stepOf rest ≡ x → (reads at rest .records ≡ []) × (reads at rest .end ≡ at)
+    by step.Ends e = none (reads-ends at rest e)
+    by (step.Fault r offset) e = none (reads-fault at rest e)
+    by (step.Record k) e = absurd (n k e)
+
 pub survey-long : (s : List ℕ) → longest < length s → survey s ≡ nothing 0 (Faulty (record { refusal = refusal.TooLong; place = 0 }))
 unfolding survey if_then_else_
 survey-long s l = rw (lt-ltb _ _ l)
@@ -92,6 +109,9 @@ survey-short s l = rw (le-ltb _ _ l)
 abbrev pub flat : List Entry → List ℕ
 flat [] = []
 flat (e ∷ es) = e .bytes ++ flat es
+
+abbrev pub behind : List Entry → Survey → Survey
+behind es v = record { records = es ++ v .records; end = v .end; ending = v .ending }
 
 abbrev pub Listed : ℕ → List Entry → Type 0
 Listed at [] = Unit {0}
@@ -135,11 +155,10 @@ parts-of (suc most) at rest l = subst (Parts at rest) (sym (unfolds most at rest
           last = h .last;
         }
 
--- whole records and a tail that ends them are found as they stand
-of-parts : (at : ℕ) (es : List Entry) (tail : List ℕ) → Listed at es → stepOf tail ≡ step.Ends
-    → reads at (flat es ++ tail) ≡ record { records = es; end = at + length (flat es); ending = Sound }
-of-parts at [] tail w e = reads-ends at tail e ∙ ap (λ (n : ℕ). nothing n Sound) (omega arith)
-of-parts at (x ∷ xs) tail w e =
+-- whole records are found as they stand, whatever is behind them
+pub reads-flat : (at : ℕ) (es : List Entry) (tail : List ℕ) → Listed at es → reads at (flat es ++ tail) ≡ behind es (reads (at + length (flat es)) tail)
+reads-flat at [] tail w = ap (λ (n : ℕ). reads n tail) (omega arith)
+reads-flat at (x ∷ xs) tail w =
     let rest = flat xs ++ tail in
     let a : flat (x ∷ xs) ++ tail ≡ x .bytes ++ rest = append-assoc (x .bytes) (flat xs) tail in
     let long = w .1 .long in
@@ -148,16 +167,22 @@ of-parts at (x ∷ xs) tail w e =
     λ i. record { place = sym (w .0) i; kind = x .kind; bytes = take-at (x .bytes) rest size long i }
     in
     let back : drop size (x .bytes ++ rest) ≡ rest = drop-at (x .bytes) rest size long in
-    let later = of-parts (at + length (x .bytes)) xs tail (w .2) e in
+    let later = reads-flat (at + length (x .bytes)) xs tail (w .2) in
     ap (reads at) a
     ∙ reads-record at (x .bytes ++ rest) (x .kind) (whole-step (w .1) rest)
     ∙ (λ i. before (first i) (reads (at + sym long i) (back i)))
     ∙ ap (before x) later
-    ∙ ap (λ (n : ℕ). record { records = x ∷ xs; end = n; ending = Sound }) (omega (arith, length-append (x .bytes) (flat xs)))
+    ∙ ap (λ (n : ℕ). behind (x ∷ xs) (reads n tail)) (omega (arith, length-append (x .bytes) (flat xs)))
 
 pub survey-of : (s : List ℕ) (es : List Entry) (tail : List ℕ) → length s ≤ longest → s ≡ flat es ++ tail → Listed 0 es → stepOf tail ≡ step.Ends
     → survey s ≡ record { records = es; end = length (flat es); ending = Sound }
-survey-of s es tail l p w e = survey-short s l ∙ ap (reads 0) p ∙ of-parts 0 es tail w e ∙ ap (λ (n : ℕ). record { records = es; end = n; ending = Sound }) (omega arith)
+survey-of s es tail l p w e =
+    let end : 0 + length (flat es) ≡ length (flat es) = omega arith in
+    survey-short s l
+    ∙ ap (reads 0) p
+    ∙ reads-flat 0 es tail w
+    ∙ ap (behind es) (reads-ends (0 + length (flat es)) tail e)
+    ∙ (λ i. record { records = append-nil es i; end = end i; ending = Sound })
 
 -- ---- what an outcome says
 
@@ -188,3 +213,22 @@ short-of s e =
 pub sheet-parts : (s : List ℕ) → length s ≤ longest → Parts 0 s (survey s)
 unfolding reads
 sheet-parts s l = subst (Parts 0 s) (sym (survey-short s l)) (parts-of (suc (length s)) 0 s (omega arith))
+
+-- ---- what stands behind the records
+
+pub parts-tail : (s : List ℕ) → length s ≤ longest → (p : Parts 0 s (survey s)) → p .tail ≡ drop (survey s .end) s
+parts-tail s l p =
+    sym (ap (drop (survey s .end)) (p .parts) ∙ drop-at (flat (survey s .records)) (p .tail) (survey s .end) (omega (arith, p .end-is)))
+
+pub no-record-behind : (s : List ℕ) → length s ≤ longest → (k : Kind) → stepOf (drop (survey s .end) s) ≡ step.Record k → ⊥
+no-record-behind s l k e =
+    let p = sheet-parts s l in
+    subst (λ (x : Step). Ended (survey s .end) x (survey s .ending)) (ap stepOf (parts-tail s l p) ∙ e) (p .last)
+
+pub end-within : (s : List ℕ) → survey s .end ≤ length s
+end-within s =
+    by-order (length s) longest
+    (λ l.
+    let p = sheet-parts s l in
+    omega (arith, p .end-is, ap length (p .parts), length-append (flat (survey s .records)) (p .tail)))
+    (λ l. omega (arith, ap (λ (v : Survey). v .end) (survey-long s l)))

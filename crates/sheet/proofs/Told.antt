@@ -21,7 +21,7 @@ use Rattle.sheet.specs.declared.Reading.the-variants as reading
 use Rattle.sheet.specs.declared.Location.the-variants as location
 use Rattle.sheet.specs.Survey.{Entry, survey, soundly, outcome, curves, nth, chosen}
 use Rattle.sheet.specs.Promise.{countOf, pointsOfEntry, placeOf, part, startOf, Reads, Locates, Finds}
-use Rattle.sheet.specs.Steps.{Asked, nowhere, there, Walks}
+use Rattle.sheet.specs.Walks.{Asked, nowhere, there, Walks}
 use Rattle.sheet.proofs.Standing.{nth-stands, entry-long, chosen-sound, chosen-faulty}
 use Rattle.sheet.proofs.Places.{stands, choice, fits, bytes-at}
 

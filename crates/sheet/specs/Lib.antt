@@ -1,5 +1,4 @@
--- The definitions that the contracts cite: what a walk over a sheet finds, and what each call promises; `Steps` is for the parts of the
--- program only.
+-- The definitions that the contracts cite: what a walk over a sheet finds, and what each call and the walk itself promise.
 pub mod Survey
 pub mod Promise
-pub mod Steps
+pub mod Walks

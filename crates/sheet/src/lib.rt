@@ -5,12 +5,11 @@
 //   find     the part of the sheet that holds a curve
 //   erase    makes every byte FF
 //   append   writes one more curve
+//   walk     what the others share, for the crates above: how the records end and where
 // No call asks anything of its arguments. A call that refuses leaves the sheet as it was.
 mod walks;
 
 ghost use Rattle.sheet.specs.Promise.{Checks, Reads, Locates, FindsIn, Erases, Appends};
-use crate::walks::Ending;
-use crate::walks::walk;
 use curve::Curve;
 use record::ERASED;
 use record::Held;
@@ -21,6 +20,9 @@ use record::put_curve;
 use refusal::Fault;
 use refusal::Refusal;
 use refusal::nowhere;
+pub use walks::Ending;
+pub use walks::Walked;
+pub use walks::walk;
 
 // What `check` answers: how many curves.
 pub enum Checked {

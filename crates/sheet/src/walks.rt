@@ -1,7 +1,7 @@
 // The walk over a sheet's records.
 ghost use mathlib.Core.Path.{_≡_};
 ghost use Rattle.sheet.specs.declared.walks.Ending.the-variants.{Sound, Faulty};
-ghost use Rattle.sheet.specs.Steps.{Walks};
+ghost use Rattle.sheet.specs.Walks.{Walks};
 use record::LONGEST;
 use record::Step;
 use record::row_of;
@@ -51,7 +51,7 @@ fn faulty(curves: usize, end: usize, from: usize, to: usize, fault: Fault) -> Wa
 }
 
 // The one walk over a sheet's records. It remembers where curve `number`, from 1, stands.
-pub(crate) fn walk(sheet: &[u8], number: usize) -> Walked
+pub fn walk(sheet: &[u8], number: usize) -> Walked
     ensures { λ r. ⌜ Walks (now (sheet .entry)) number r ⌝ }
 {
     if sheet.len() > LONGEST {

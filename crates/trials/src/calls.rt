@@ -16,7 +16,7 @@ pub(crate) fn suits(call: usize, n: &[i64], count: usize) -> bool
         4 => count == 9 || count == 10 || count == 13 || count == 14,
         5 => count == 6 || count == 8,
         6 => count == 6 || count == 7,
-        7 | 10 => count % 2 == 0,
+        7 | 10 | 13 => count % 2 == 0,
         8 | 9 => count % 2 == 1 && n[0] >= 0,
         _ => count % 2 == 1 && (n[0] == 8 && count > 8 || n[0] == 12 && count > 12),
     }
@@ -101,7 +101,7 @@ pub(crate) fn runs_from(call: usize, n: &[i64]) -> usize
 {
     match call {
         1 | 2 | 3 | 4 | 5 | 6 => 64,
-        7 | 10 => 0,
+        7 | 10 | 13 => 0,
         8 | 9 => 1,
         _ => { if n[0] == 8 { 9 } else { 13 } }
     }

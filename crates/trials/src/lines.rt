@@ -13,6 +13,8 @@ use crate::places::Sought;
 use crate::places::find;
 use crate::roots::root;
 use crate::runs::no_byte;
+use crate::runs::put_runs;
+use crate::sheets::say_checked;
 use crate::words::say;
 use crate::words::say_number;
 
@@ -54,17 +56,19 @@ fn ask_root(text: &[u8], from: usize, line: usize) -> bool
     true
 }
 
-// The call that is named, with the numbers from a place on; false where there is none, or it takes other numbers.
-fn ask(named: usize, text: &[u8], from: usize, line: usize, n: &mut [i64], area: &mut [u8]) -> bool
+// What the numbers of a call are: fit for it, so many; not those that it takes; or one is wrong, which is said then.
+enum Taken {
+    Fit(usize),
+    Unfit,
+    Wrong,
+}
+
+// Takes the numbers of a call from a place on.
+fn take(named: usize, text: &[u8], from: usize, line: usize, n: &mut [i64]) -> Taken
     requires { ⌜ from ≤ length (now text) ⌝ }
     requires { ⌜ length (now n) ≡ 64 ⌝ }
+    ensures { λ _. ⌜ length (now (n .exit)) ≡ 64 ⌝ }
 {
-    if named == 0 {
-        return false;
-    }
-    if named == 12 {
-        return ask_root(text, from, line);
-    }
     let found = arguments(text, from, n);
     let count = found.count;
     if say_wrong(
@@ -73,18 +77,64 @@ fn ask(named: usize, text: &[u8], from: usize, line: usize, n: &mut [i64], area:
         line,
         b"neither a number nor a word of a call",
     ) {
-        return true;
+        return Taken::Wrong;
     }
     if !suits(named, n, count) {
-        return false;
+        return Taken::Unfit;
     }
     let bad = no_byte(n, runs_from(named, n));
     if bad < n.len() {
         // With room for the numbers before it alone, it is the first that is wrong.
         let found = arguments(text, from, &mut n[0..bad]);
-        return say_wrong(text, found.wrong, line, b"a byte is a number from 0 to 255");
+        say_wrong(text, found.wrong, line, b"a byte is a number from 0 to 255");
+        return Taken::Wrong;
     }
-    answer(named, n, count, area);
+    Taken::Fit(count)
+}
+
+// The sheet whose parts stand from a place on, with / between them; false where a part is no list of runs.
+fn ask_parts(named: usize, text: &[u8], from: usize, line: usize, area: &mut [u8]) -> bool
+    requires { ⌜ from ≤ length (now text) ⌝ }
+{
+    let mut state = [0i64; 12];
+    parts_calls::start(&mut state);
+    let mut at = from;
+    // The last part may be empty, and so stand at the text's end.
+    while at <= text.len() {
+        let end = find(text, at, Sought::Byte(b'/'));
+        // Zeros anew: a part may have fewer numbers than the one before.
+        let mut n = [0i64; 64];
+        match take(named, &text[0..end], at, line, &mut n) {
+            Taken::Fit(_) => {
+                // A part is cut where the area ends, which is too long for a sheet all the same.
+                let most = put_runs(area, &n);
+                parts_calls::feed(&mut state, &area[..most]);
+            }
+            Taken::Unfit => return false,
+            Taken::Wrong => return true,
+        }
+        at = end + 1;
+    }
+    say_checked(parts_calls::end(&mut state));
+    true
+}
+
+// The call that is named, with the numbers from a place on; false where there is none, or it takes other numbers.
+fn ask(named: usize, text: &[u8], from: usize, line: usize, n: &mut [i64], area: &mut [u8]) -> bool
+    requires { ⌜ from ≤ length (now text) ⌝ }
+    requires { ⌜ length (now n) ≡ 64 ⌝ }
+{
+    match named {
+        0 => return false,
+        12 => return ask_root(text, from, line),
+        13 => return ask_parts(named, text, from, line, area),
+        _ => (),
+    }
+    match take(named, text, from, line, n) {
+        Taken::Fit(count) => answer(named, n, count, area),
+        Taken::Unfit => return false,
+        Taken::Wrong => (),
+    }
     true
 }
 

@@ -26,7 +26,8 @@ read NUMBER of RUNS: a curve of a sheet
 find NUMBER of RUNS: the bytes of a curve of a sheet
 erase RUNS: a sheet
 append C3 POINTS to RUNS, or append C5 POINTS to RUNS: 4 or 6 points, and a sheet
-root N: a number from 0 to 18446744073709551615",
+root N: a number from 0 to 18446744073709551615
+parts RUNS / RUNS / ...: a sheet that arrives by parts, each told by its runs, or empty",
         name,
         tell,
     )

@@ -6,13 +6,17 @@ use crate::words::say;
 use crate::words::say_form;
 use whole::size;
 
-fn check(sheet: &[u8]) {
-    let returned = sheet_calls::check(sheet);
+// What the check of a sheet returned.
+pub(crate) fn say_checked(returned: i64) {
     if returned < 0 {
         say_fault(returned);
     } else {
         say_form(b"curves #", &[returned]);
     }
+}
+
+fn check(sheet: &[u8]) {
+    say_checked(sheet_calls::check(sheet));
 }
 
 fn read(sheet: &[u8], number: i64) {

@@ -2,12 +2,13 @@
 --   told, untold     P holds where its flag is true, and not where it is false: for a branch that has tested it
 --   told-once        P has one flag: one answer of every promise by `Tells`
 --   told-map         what holds exactly where P does has the same flag
---   equal-tells      what a returned test of two natural numbers tells
+--   equal-tells, order-tells     what a returned test of two natural numbers tells: that they are equal, and their order
 use mathlib.Core.Path.{_≡_, refl, subst}
 use mathlib.Core.Bool.{Bool, true, false, not}
-use Prim.Native.Nat.{ℕ}
-use borrow.Author.Tests.{not-true, not-false, eqb-true, eqb-false}
-use lib.Dec.{eqb}
+use Prim.Native.Nat.{ℕ, _≤_}
+use native.Mathlib.Omega.{arith}
+use borrow.Author.Tests.{not-true, not-false, eqb-true, eqb-false, leb-true, leb-false}
+use lib.Dec.{eqb, leb}
 use Rattle.whole.specs.Number.{Tells}
 
 pub told : {P : Type 0} (r : Bool) → Tells P r → not r ≡ false → P
@@ -32,3 +33,10 @@ equal-tells a b = by (eqb a b) refl
     by : (r : Bool) → eqb a b ≡ r → Tells (a ≡ b) r
     by true e = eqb-true a b e
     by false e = eqb-false a b e
+
+pub order-tells : (a b : ℕ) → Tells (a ≤ b) (leb a b)
+order-tells a b = by (leb a b) refl
+  where
+    by : (r : Bool) → leb a b ≡ r → Tells (a ≤ b) r
+    by true e = leb-true a b e
+    by false e = λ l. omega (arith, leb-false a b e)

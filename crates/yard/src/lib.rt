@@ -1,9 +1,11 @@
-// The calls for C: include/yard.h declares them, with a comment for each, and `number_calls`, `curve_calls` and `sheet_calls` make them.
+// The calls for C: include/yard.h declares them, with a comment for each, and `number_calls`, `curve_calls`, `sheet_calls` and `parts_calls` make them.
 // A call returns how many there are of what it answers, or, where it refuses, minus the refusal's number and 32 times its place.
-// A lent number area holds the answer from its start and zeros behind it; after a refusal it is all zero.
+// A lent number area holds the answer from its start and zeros behind it; after a refusal it is all zero. The state of a sheet by parts is an
+// area that stays as it is where a call refuses.
 ghost use Rattle.pair.specs.Pairs.{pair};
 ghost use Rattle.number_calls.specs.Promise.{RootCall};
 ghost use Rattle.curve_calls.specs.Promise.{RecogniseCall, LengthCall, InflectionCall, OffsetCall, BuildCall, JoinCall};
+ghost use Rattle.parts_calls.specs.Promise.{StartCall, FeedCall, EndCall, AskCall};
 ghost use Rattle.sheet_calls.specs.Promise.{CheckCall, ReadCall, FindCall, EraseCall, AppendCall, ReportCall};
 
 #[no_mangle]
@@ -103,4 +105,32 @@ pub extern "C" fn yard_root(n: u64, out: &mut [i64]) -> i64
     ensures { λ r. ⌜ RootCall n (now (out .entry)) (now (out .exit)) r ⌝ }
 {
     number_calls::root(n, out)
+}
+
+#[no_mangle]
+pub extern "C" fn yard_parts_start(state: &mut [i64]) -> i64
+    ensures { λ r. ⌜ StartCall (now (state .entry)) (now (state .exit)) r ⌝ }
+{
+    parts_calls::start(state)
+}
+
+#[no_mangle]
+pub extern "C" fn yard_parts_feed(state: &mut [i64], part: &[u8]) -> i64
+    ensures { λ r. ⌜ FeedCall (now (state .entry)) (now (part .entry)) (now (state .exit)) r ⌝ }
+{
+    parts_calls::feed(state, part)
+}
+
+#[no_mangle]
+pub extern "C" fn yard_parts_end(state: &mut [i64]) -> i64
+    ensures { λ r. ⌜ EndCall (now (state .entry)) (now (state .exit)) r ⌝ }
+{
+    parts_calls::end(state)
+}
+
+#[no_mangle]
+pub extern "C" fn yard_parts_ask(state: &[i64]) -> i64
+    ensures { λ r. ⌜ AskCall (now (state .entry)) r ⌝ }
+{
+    parts_calls::ask(state)
 }

@@ -17,9 +17,13 @@ pub enum Function {
     Append = 11,
     Report = 12,
     Root = 13,
+    PartsStart = 14,
+    PartsFeed = 15,
+    PartsEnd = 16,
+    PartsAsk = 17,
 }
 
-pub const FUNCTIONS: [(Function, &str); 13] = [
+pub const FUNCTIONS: [(Function, &str); 17] = [
     (Function::Recognise, "yard_recognise"),
     (Function::Length, "yard_length"),
     (Function::Inflections, "yard_inflections"),
@@ -33,6 +37,10 @@ pub const FUNCTIONS: [(Function, &str); 13] = [
     (Function::Append, "yard_append"),
     (Function::Report, "yard_report"),
     (Function::Root, "yard_root"),
+    (Function::PartsStart, "yard_parts_start"),
+    (Function::PartsFeed, "yard_parts_feed"),
+    (Function::PartsEnd, "yard_parts_end"),
+    (Function::PartsAsk, "yard_parts_ask"),
 ];
 
 impl Function {
@@ -46,7 +54,9 @@ impl Function {
 pub struct Areas {
     /// The numbers of a curve, or of w.
     pub numbers: Vec<i64>,
+    /// A sheet, or a part of one.
     pub sheet: Vec<u8>,
+    /// What is written whole, or the state of a check by parts.
     pub out: Vec<i64>,
     pub text: Vec<u8>,
 }

@@ -5,6 +5,11 @@ use super::chance::Chance;
 use super::ends::ends;
 use super::shapes::{a_pair, curve};
 use super::sheets;
+use super::states::{
+    changed_state, ended_state, hurt_state, long_state, moved_state, other_part, other_state,
+    overfull_state, sound_state, uncounted_record,
+};
+use crate::parts::NUMBERS;
 
 /// No line of a report is longer.
 const LINE: usize = 60;
@@ -47,17 +52,28 @@ fn sound(chance: &mut Chance, function: Function) -> Call {
             let room = LINE * (sheets::curves(&before.sheet) + 1);
             before.text = garbage(chance, room).iter().map(|&x| x as u8).collect();
         }
-        Check | Erase => (),
+        Check | Erase | PartsStart | PartsFeed | PartsEnd | PartsAsk => (),
     }
-    if !matches!(function, Check | Erase | Append | Report) {
-        let room = needed(function, before.numbers.len()) + chance.pick(&[0, 0, 1, 7]);
-        before.out = garbage(chance, room);
-    }
-    Call {
+    before.out = lent(chance, function, before.numbers.len());
+    let mut call = Call {
         function,
         singles,
         before,
+    };
+    if matches!(function, PartsFeed | PartsEnd | PartsAsk) {
+        sound_state(chance, &mut call);
     }
+    call
+}
+
+/// The number area of a call, which has room enough; nothing where it has none.
+fn lent(chance: &mut Chance, function: Function, numbers: usize) -> Vec<i64> {
+    use Function::*;
+    if matches!(function, Check | Erase | Append | Report) {
+        return Vec::new();
+    }
+    let room = needed(function, numbers) + chance.pick(&[0, 0, 1, 7]);
+    garbage(chance, room)
 }
 
 /// How many numbers are always enough.
@@ -71,6 +87,9 @@ fn needed(function: Function, numbers: usize) -> usize {
         Function::Joins => 24,
         Function::Build | Function::Read => 12,
         Function::Find | Function::Root => 2,
+        Function::PartsStart | Function::PartsFeed | Function::PartsEnd | Function::PartsAsk => {
+            NUMBERS
+        }
         _ => 30,
     }
 }
@@ -131,13 +150,43 @@ fn ways(function: Function) -> &'static [Way] {
         Recognise | Length | Inflections => &[wrong_count, far_number, small_room],
         Offset | Build => &[wrong_count, far_number, far_single, small_room],
         Joins => &[far_single, dead_end, small_room],
-        Root => &[small_room],
+        Root | PartsStart => &[small_room],
         Check | Erase => &[hurt_sheet],
         Read | Find => &[hurt_sheet, other_number, small_room],
         Append => &[hurt_sheet, wrong_count, far_number],
         Report => &[hurt_sheet, small_text],
+        PartsFeed => FEED_WAYS,
+        PartsEnd | PartsAsk => END_WAYS,
     }
 }
+
+const FEED_WAYS: &[Way] = &[
+    hurt_state,
+    long_state,
+    changed_state,
+    moved_state,
+    other_state,
+    overfull_state,
+    ended_state,
+    uncounted_record,
+    other_part,
+    small_room,
+];
+
+/// Faults of a sheet show at its end alone, and some are rare.
+const END_WAYS: &[Way] = &[
+    hurt_state,
+    hurt_state,
+    hurt_state,
+    hurt_state,
+    long_state,
+    changed_state,
+    moved_state,
+    other_state,
+    overfull_state,
+    uncounted_record,
+    small_room,
+];
 
 fn wrong_count(chance: &mut Chance, call: &mut Call) {
     let more = chance.between(-3, 3);

@@ -3,6 +3,7 @@
 use super::super::face::answer;
 use super::*;
 
+const CUT: i64 = 2;
 const RANGE: i64 = 6;
 const ROOM: i64 = 12;
 const DEAD_END: i64 = 14;
@@ -13,9 +14,11 @@ fn no_sound_call_is_refused_for_its_form() {
     for (function, name) in FUNCTIONS {
         for _ in 0..500 {
             let call = sound(&mut chance, function);
-            let refusal = (-answer(&call).returned).max(0) % 32;
-            // A built point may leave the range, and an erased tail may be too short for a curve.
+            let refusal = -(answer(&call).returned.min(0) % 32);
+            // A built point may leave the range, an erased tail may be too short for a curve, and a sheet that comes in
+            // parts may end anywhere.
             let allowed = match refusal {
+                CUT => matches!(function, Function::PartsEnd | Function::PartsAsk),
                 1..=5 | DEAD_END => false,
                 RANGE => function == Function::Build,
                 ROOM => function == Function::Append,

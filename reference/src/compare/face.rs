@@ -1,23 +1,50 @@
 //! The face for C: what each call of the library returns and leaves in the areas lent to it, by this program's answers.
 
-use super::call::{Answer, Call, Function};
+use super::call::{Answer, Areas, Call, Function};
 use crate::build::build;
 use crate::curve::Curve;
 use crate::join::joins;
 use crate::measure::{inflections, length};
 use crate::offset::offset;
 use crate::pair::{pair, Pair};
+use crate::parts;
 use crate::refusal::Refusal;
 use crate::report::report;
 use crate::root::root;
-use crate::sheet::{append, check, erase, read, Fault};
+use crate::sheet::{append, check, count, erase, read, Fault};
 use crate::verdict::{recognise, Ph, Pre, Verdict};
+
+/// What the check by parts returns where it is asked before the end.
+pub const NOT_ENDED: i64 = i64::MIN;
 
 /// What came back and what the areas hold afterwards.
 pub fn answer(call: &Call) -> Answer {
     let mut after = call.before.clone();
     let told = match call.function {
-        Function::Check => check(&call.before.sheet).map(|listing| listing.records.len()),
+        Function::PartsAsk => parts::ask(&after.out),
+        _ => counted(call, &mut after).map(Some),
+    };
+    let returned = match told {
+        Ok(Some(count)) => count as i64,
+        Ok(None) => NOT_ENDED,
+        Err(fault) => code(fault),
+    };
+    Answer { returned, after }
+}
+
+/// The answer of a call that always has one, and what it leaves in its areas.
+fn counted(call: &Call, after: &mut Areas) -> Result<usize, Fault> {
+    match call.function {
+        Function::PartsStart => {
+            parts::start(&mut after.out)?;
+            Ok(0)
+        }
+        Function::PartsFeed => {
+            parts::feed(&mut after.out, &call.before.sheet)?;
+            Ok(0)
+        }
+        Function::PartsEnd => parts::end(&mut after.out),
+        Function::Check => count(&call.before.sheet),
         Function::Erase => done(erase(&mut after.sheet), &call.before.sheet),
         Function::Append => curve_in(call)
             .and_then(|curve| done(append(&mut after.sheet, &curve), &call.before.sheet)),
@@ -35,23 +62,12 @@ pub fn answer(call: &Call) -> Answer {
             }
             numbers
         }
-    };
-    Answer {
-        returned: told.map_or_else(code, |count| count as i64),
-        after,
     }
 }
 
 /// Minus the refusal's number and 32 times its place.
 fn code(fault: Fault) -> i64 {
     -(i64::from(fault.refusal.number()) + 32 * fault.place as i64)
-}
-
-/// A refusal that has no place.
-impl From<Refusal> for Fault {
-    fn from(refusal: Refusal) -> Fault {
-        Fault { refusal, place: 0 }
-    }
 }
 
 /// The answer from the area's start and zeros behind it; zeros alone where it does not fit.

@@ -1,6 +1,5 @@
 //! The face's rules, on the document's cases and at the edges of areas and counts.
 
-use super::super::call::Areas;
 use super::*;
 
 fn told(function: Function, singles: [i64; 6], before: Areas) -> Answer {
@@ -192,6 +191,41 @@ fn sheets_written() {
     assert_eq!((erased.returned, erased.after.sheet), (0, vec![0xFF; 91]));
     let long = on_sheet(Function::Erase, &[0; 4_097], 0, 0);
     assert_eq!((long.returned, long.after.sheet), (-1, vec![0; 4_097]));
+}
+
+/// The state of a record of which six bytes have come, and a number behind it.
+const OPEN_RECORD: [i64; 13] = [0, 6, 0, 0, 0, 0x0807_3343_0024, 0, 0, 0, 0, 0, 0, -9];
+
+#[test]
+fn parts_of_a_sheet() {
+    let of = |function, state: &[i64], part: &[u8]| {
+        let (sheet, out) = (part.to_vec(), state.to_vec());
+        let rest = Areas::default();
+        told(function, [0; 6], Areas { sheet, out, ..rest })
+    };
+    let started = [0, 0, 0, 0, 0, 0, 0, 0, 0, 0, 0, 0, -9];
+    is(&of(Function::PartsStart, &[-9; 13], &[]), 0, &started);
+    is(&of(Function::PartsStart, &[-9; 11], &[]), -12, &[-9; 11]);
+    let rest = [&[0; 30][..], &[1, 2, 3, 4, 5, 6, 7, 0xFF, 9]].concat();
+    let held = 0xFF07_0605_0403_0201_u64 as i64;
+    let fed = [0, 45, 1, 36, 0, held, 9, 0, 0, 0, 0, 0, -9];
+    is(&of(Function::PartsFeed, &OPEN_RECORD, &rest), 0, &fed);
+    is(&of(Function::PartsAsk, &fed, &[]), i64::MIN, &fed);
+    let mut ended = fed;
+    ended[0] = 1;
+    for (function, state) in [
+        (Function::PartsEnd, &fed),
+        (Function::PartsEnd, &ended),
+        (Function::PartsAsk, &ended),
+    ] {
+        is(&of(function, state, &[]), -(4 + 32 * 36), &ended);
+    }
+    is(&of(Function::PartsFeed, &ended, &[]), -19, &ended);
+    ended[4] = 1;
+    for function in [Function::PartsFeed, Function::PartsEnd, Function::PartsAsk] {
+        is(&of(function, &ended, &[]), -6, &ended);
+        is(&of(function, &ended[..11], &[]), -12, &ended[..11]);
+    }
 }
 
 #[test]

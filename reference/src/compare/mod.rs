@@ -10,6 +10,7 @@ mod face;
 mod plain_tests;
 mod shapes;
 mod sheets;
+mod states;
 mod tally;
 mod wire;
 

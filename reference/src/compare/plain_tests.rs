@@ -18,7 +18,13 @@ fn plain_answers(call: &Call) -> Vec<Answer> {
             &|after| plain::recognise_by_legs(numbers, &mut after.out),
         ],
         Function::Joins => &[&|after| plain::joins(call.singles, &mut after.out)],
-        Function::Check => &[&|_| plain::check(sheet)],
+        Function::Check => &[
+            &|_| plain::check(sheet),
+            &|_| by_parts(sheet, 1),
+            &|_| by_parts(sheet, 7),
+            &|_| by_parts(sheet, 64),
+            &|_| by_parts(sheet, 4_097),
+        ],
         Function::Report => &[&|after| plain::report(sheet, &mut after.text)],
         _ => &[],
     };
@@ -28,6 +34,18 @@ fn plain_answers(call: &Call) -> Vec<Answer> {
         Answer { returned, after }
     };
     versions.iter().map(answer).collect()
+}
+
+/// The plain check of a sheet in parts of this size, with an empty one behind them; ended, and ended again.
+fn by_parts(sheet: &[u8], size: usize) -> i64 {
+    let mut parts = plain::Parts::default();
+    for part in sheet.chunks(size).chain([&[][..]]) {
+        assert_eq!(plain::feed(&mut parts, part), 0);
+    }
+    let returned = plain::end(&mut parts);
+    assert_eq!(plain::feed(&mut parts, &[]), -19);
+    assert_eq!(plain::end(&mut parts), returned);
+    returned
 }
 
 fn hold(call: &Call) -> Answer {

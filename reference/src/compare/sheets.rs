@@ -3,7 +3,7 @@
 use super::chance::Chance;
 use super::shapes::curve;
 use crate::curve::Curve;
-use crate::sheet::{check, record_bytes};
+use crate::sheet::{check, count, record_bytes};
 
 const MOST: usize = 4_096;
 
@@ -108,7 +108,7 @@ fn leave_over(chance: &mut Chance, sheet: &mut [u8]) {
 
 /// How many curves a sheet has; none where it has a fault.
 pub fn curves(sheet: &[u8]) -> usize {
-    check(sheet).map_or(0, |listing| listing.records.len())
+    count(sheet).unwrap_or(0)
 }
 
 /// The coordinates of a curve.

@@ -1,10 +1,13 @@
 //! How often each outcome of each call was compared, so that a reader sees that every one of them was.
 
 use super::call::{Answer, Call, Function, FUNCTIONS};
+use super::face::NOT_ENDED;
+use crate::parts::{bytes_with, NUMBERS};
 use crate::refusal::{
+    name_of,
     Refusal::{self, *},
-    NAMES,
 };
+use crate::sheet::{LONGEST_RECORD, SHEET_LIMIT};
 
 const SHEET_FAULTS: [Refusal; 6] = [TooLong, Cut, Leftover, Kind, Length, Range];
 const VERDICTS: [&str; 4] = ["still", "no", "ph", "pre"];
@@ -20,6 +23,18 @@ const TRIPLES: [&str; 7] = [
 ];
 const TURNS: [&str; 4] = ["none", "one", "two", "straight"];
 const LEFT: [&str; 3] = ["nothing", "some", "most"];
+/// What a part left: a sheet that is too long, an erased tail or a fault, or else no record more, one or several.
+const FED: [&str; 7] = [
+    "empty",
+    "too long",
+    "erased",
+    "fault",
+    "no record",
+    "a record",
+    "several",
+];
+/// Numbers that are no state are RANGE, as a record may be: they are counted apart.
+const NO_STATE: &str = "no state";
 
 struct Row {
     function: Function,
@@ -36,7 +51,7 @@ impl Tally {
         let rows = FUNCTIONS.map(|(function, _)| {
             let refusals = refusals(function)
                 .into_iter()
-                .map(|refusal| NAMES[refusal as usize - 1]);
+                .map(|refusal| name_of(refusal as i64));
             let all = answers(function).iter().copied().chain(refusals);
             let outcomes = all.map(|outcome| (outcome, 0)).collect();
             Row { function, outcomes }
@@ -92,7 +107,10 @@ fn answers(function: Function) -> &'static [&'static str] {
             &["cubic", "quintic"]
         }
         Function::Check => &["empty", "curves"],
-        Function::Erase | Function::Append => &["done"],
+        Function::Erase | Function::Append | Function::PartsStart => &["done"],
+        Function::PartsFeed => &FED,
+        Function::PartsEnd => &["empty", "curves", "ended again", NO_STATE],
+        Function::PartsAsk => &["empty", "curves", "not ended", NO_STATE],
         Function::Report => &["report", "fault"],
         Function::Root => &LEFT,
     }
@@ -112,15 +130,22 @@ fn refusals(function: Function) -> Vec<Refusal> {
         Function::Read | Function::Find => [&SHEET_FAULTS[..], &[Number, Room]].concat(),
         Function::Erase => vec![TooLong],
         Function::Append => [&SHEET_FAULTS[..], &[Room]].concat(),
-        Function::Report | Function::Root => vec![Room],
+        Function::Report | Function::Root | Function::PartsStart => vec![Room],
+        Function::PartsFeed => vec![Room, Range, Ended],
+        Function::PartsEnd | Function::PartsAsk => [&[Room], &SHEET_FAULTS[..]].concat(),
     }
 }
 
 fn outcome(call: &Call, answer: &Answer) -> &'static str {
-    if answer.returned < 0 {
-        return NAMES[(-answer.returned % 32) as usize - 1];
+    let (out, returned) = (&answer.after.out, answer.returned);
+    let is_state = || out.first_chunk().and_then(bytes_with).is_some();
+    match call.function {
+        Function::PartsEnd | Function::PartsAsk if out.len() >= NUMBERS && !is_state() => {
+            return NO_STATE
+        }
+        _ if returned < 0 && returned != NOT_ENDED => return name_of(-returned % 32),
+        _ => (),
     }
-    let out = &answer.after.out;
     let which = match call.function {
         Function::Recognise => out[0] as usize,
         Function::Inflections => (if out[4] == 1 { 3 } else { out[3] }) as usize,
@@ -130,7 +155,11 @@ fn outcome(call: &Call, answer: &Answer) -> &'static str {
         Function::Build | Function::Read => usize::from(answer.returned == 12),
         Function::Find => usize::from(out[1] == 52),
         Function::Check => usize::from(answer.returned > 0),
-        Function::Erase | Function::Append => 0,
+        Function::Erase | Function::Append | Function::PartsStart => 0,
+        Function::PartsFeed => kind_of_part(call, out),
+        Function::PartsEnd if call.before.out[0] == 1 => 2,
+        Function::PartsAsk if returned == NOT_ENDED => 2,
+        Function::PartsEnd | Function::PartsAsk => usize::from(returned > 0),
         Function::Report => usize::from(answer.after.text.starts_with(b"refused")),
         // Of 0 nothing is left over, which is the most too.
         Function::Root => usize::from(out[1] > 0) + usize::from(out[1] > 0 && out[1] == 2 * out[0]),
@@ -145,5 +174,20 @@ fn kind_of_list(count: usize, out: &[i64]) -> usize {
         0 => count,
         halves if halves == count => 5,
         _ => 6,
+    }
+}
+
+/// Which of FED a part was. Where more bytes are left than a record has, a fault stands before them.
+fn kind_of_part(call: &Call, out: &[i64]) -> usize {
+    if call.before.sheet.is_empty() {
+        0
+    } else if out[1] > SHEET_LIMIT as i64 {
+        1
+    } else if out[4] > 1 {
+        2
+    } else if out[1] - out[3] > LONGEST_RECORD as i64 {
+        3
+    } else {
+        4 + (out[2] - call.before.out[2]).min(2) as usize
     }
 }

@@ -1,10 +1,12 @@
 //! The fastest plain version of the jobs that are timed, to hold the library against: 64 bits, nothing allocated,
-//! and the same answers in the same areas. What is written of a call in the library's header holds of these too.
+//! and the same answers in the same areas. What is written of a call in the library's header holds of these too, but
+//! for the state of a check by parts, which is a struct of its own.
 
 mod face;
 mod joins;
 mod legs;
 mod number;
+mod parts;
 mod preimage;
 mod recognise;
 mod report;
@@ -12,6 +14,7 @@ mod sheet;
 mod totals;
 
 use number::pair;
+pub use parts::Parts;
 use recognise::Verdict;
 pub use sheet::Fault;
 pub use totals::Totals;
@@ -20,6 +23,7 @@ const LENGTH: i64 = 5;
 const RANGE: i64 = 6;
 const ROOM: i64 = 12;
 const DEAD_END: i64 = 14;
+const ENDED: i64 = 19;
 
 fn refused(out: &mut [i64], number: i64) -> i64 {
     out.fill(0);
@@ -102,10 +106,28 @@ pub fn joins(ends: [i64; 6], out: &mut [i64]) -> i64 {
 
 /// The count of a sheet's curves, or its first fault with the place.
 pub fn check(sheet: &[u8]) -> i64 {
-    match sheet::walk(sheet, |_| ()) {
+    counted(sheet::walk(sheet, |_| ()))
+}
+
+fn counted(checked: Result<i64, Fault>) -> i64 {
+    match checked {
         Ok(count) => count,
         Err(fault) => -(fault.number + 32 * fault.place as i64),
     }
+}
+
+/// Feeds a part; 0, or the refusal of a sheet that has ended.
+pub fn feed(parts: &mut Parts, part: &[u8]) -> i64 {
+    if parts.feed(part) {
+        0
+    } else {
+        -ENDED
+    }
+}
+
+/// Ends a sheet that came in parts: what the check says of it.
+pub fn end(parts: &mut Parts) -> i64 {
+    counted(parts.end())
 }
 
 /// The report of a sheet, and its length.

@@ -1,6 +1,6 @@
 //! The sheet: one walk over its records, that tests each coordinate once.
 
-const SHEET_LIMIT: usize = 4_096;
+pub const SHEET_LIMIT: usize = 4_096;
 const ERASED: u8 = 0xFF;
 
 /// A refusal's number and its place.
@@ -10,55 +10,78 @@ pub struct Fault {
     pub place: usize,
 }
 
+pub const TOO_LONG: Fault = Fault {
+    number: 1,
+    place: 0,
+};
+
 /// Walks over a sheet whole and counts its records; `each` is given every record's points as bytes.
 pub fn walk(sheet: &[u8], mut each: impl FnMut(&[u8])) -> Result<i64, Fault> {
     if sheet.len() > SHEET_LIMIT {
-        return fault(1, 0);
+        return Err(TOO_LONG);
     }
     let (mut place, mut count) = (0, 0);
     loop {
         let rest = &sheet[place..];
-        let points = match rest {
-            [] | [ERASED] => return Ok(count),
-            [_] => return fault(2, place),
-            [ERASED, ERASED, tail @ ..] => return erased(tail, place + 2, count),
-            [36, 0, b'C', b'3', tail @ ..] if tail.len() >= 32 => &tail[..32],
-            [52, 0, b'C', b'5', tail @ ..] if tail.len() >= 48 => &tail[..48],
-            _ => return fault(damage(rest), place),
-        };
-        if !in_range(points) {
-            return fault(6, place);
-        }
-        each(points);
-        place += 4 + points.len();
-        count += 1;
-    }
-}
-
-fn fault(number: i64, place: usize) -> Result<i64, Fault> {
-    Err(Fault { number, place })
-}
-
-fn erased(tail: &[u8], place: usize, count: i64) -> Result<i64, Fault> {
-    match tail.iter().position(|&byte| byte != ERASED) {
-        None => Ok(count),
-        Some(k) => fault(3, place + k),
-    }
-}
-
-/// What is wrong with at least two bytes that begin no whole record and no erased part.
-fn damage(rest: &[u8]) -> i64 {
-    match rest {
-        [_, _, b'C', kind @ (b'3' | b'5'), ..] => {
-            let length = if *kind == b'3' { 36 } else { 52 };
-            if rest[0] == length && rest[1] == 0 {
-                2
-            } else {
-                5
+        match found(rest) {
+            Found::Record(length) => {
+                each(&rest[4..length]);
+                place += length;
+                count += 1;
             }
+            Found::Erased => return erased(rest, place).map_or(Ok(count), Err),
+            Found::Short => return cut(rest, place).map_or(Ok(count), Err),
+            Found::Fault(number) => return Err(Fault { number, place }),
         }
-        [_, _, _, _, ..] => 4,
-        _ => 2,
+    }
+}
+
+/// What stands at a record's place.
+pub enum Found {
+    /// A whole record of so many bytes.
+    Record(usize),
+    Erased,
+    /// Nothing that is whole, and no fault yet if more follows.
+    Short,
+    Fault(i64),
+}
+
+/// Inlined, since a call for each record would take as long as its test.
+#[inline(always)]
+pub fn found(rest: &[u8]) -> Found {
+    let points = match rest {
+        [36, 0, b'C', b'3', tail @ ..] if tail.len() >= 32 => &tail[..32],
+        [52, 0, b'C', b'5', tail @ ..] if tail.len() >= 48 => &tail[..48],
+        [ERASED, ERASED, ..] => return Found::Erased,
+        _ => return damage(rest),
+    };
+    if in_range(points) {
+        Found::Record(4 + points.len())
+    } else {
+        Found::Fault(6)
+    }
+}
+
+/// The fault of bytes that have to be FF, from a place on.
+pub fn erased(tail: &[u8], place: usize) -> Option<Fault> {
+    let other = tail.iter().position(|&byte| byte != ERASED)?;
+    let (number, place) = (3, place + other);
+    Some(Fault { number, place })
+}
+
+/// The fault of a sheet that ends with these bytes, which are nothing whole.
+pub fn cut(rest: &[u8], place: usize) -> Option<Fault> {
+    let number = 2;
+    (!matches!(rest, [] | [ERASED])).then_some(Fault { number, place })
+}
+
+/// What is wrong with bytes that begin no whole record and no erased part.
+fn damage(rest: &[u8]) -> Found {
+    match rest {
+        [36, 0, b'C', b'3', ..] | [52, 0, b'C', b'5', ..] => Found::Short,
+        [_, _, b'C', b'3' | b'5', ..] => Found::Fault(5),
+        [_, _, _, _, ..] => Found::Fault(4),
+        _ => Found::Short,
     }
 }
 

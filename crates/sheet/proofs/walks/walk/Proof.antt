@@ -11,7 +11,7 @@ use Rattle.record.specs.declared.steps.Step.the-variants as step
 use Rattle.record.specs.Kinds.{rowOf}
 use Rattle.record.specs.Records.{longest, stepOf}
 use Rattle.record.proofs.Shown.{fault-near}
-use Rattle.sheet.specs.Steps.{Walks}
+use Rattle.sheet.specs.Walks.{Walks}
 use Rattle.sheet.proofs.Passed.{Passed, passed-none, walked-long, rest-is, sound-here, fault-here, farther, passed-here, passed-past, passed-other}
 use Rattle.sheet.proofs.walks.walk.Statement.{statement}
 use Rattle.sheet.proofs.walks.walk.Tie as tie

@@ -1,6 +1,6 @@
--- What the functions inside the crate promise one another. No public contract speaks of it.
+-- What the one walk over the records promises.
 --   Asked       from where to where the curve of a number stands among some records: from a place to the same place where there is none
---   Walks       what the one walk over the records, which all calls share, finds
+--   Walks       what the walk, which all calls share, finds
 use mathlib.Core.Path.{_≡_}
 use mathlib.Core.List.{List}
 use Prim.Native.Nat.{ℕ, _+_, _≤_}

@@ -1,0 +1,2 @@
+-- Theorems: the bytes that arrive, and their line.
+pub mod Arrivals

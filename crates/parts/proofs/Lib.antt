@@ -1,0 +1,2 @@
+-- One answer for each call.
+pub mod Once

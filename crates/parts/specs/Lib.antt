@@ -1,0 +1,2 @@
+-- The definitions that the contracts cite: what each call promises.
+pub mod Promise
