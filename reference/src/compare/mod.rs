@@ -4,6 +4,7 @@ pub mod boxes;
 mod call;
 mod calls;
 mod chance;
+mod cuts;
 mod ends;
 mod face;
 #[cfg(test)]
@@ -27,7 +28,7 @@ const LONG: u64 = 20_000;
 /// What a comparison ends with: the tally, or what is wrong.
 pub type Compared = Result<String, String>;
 
-/// Sends `count` calls to the command and compares each answer whole. The outer error is a mistake in the command.
+/// Sends every cut of some small sheets and `count` calls by chance to the command and compares each answer whole. The outer error is a mistake in the command.
 pub fn compare(count: u64, seed: u64, command: &[&str]) -> Result<Compared, String> {
     let (program, words) = command.split_first().ok_or("no command to compare with")?;
     let mut starting = Command::new(program);
@@ -58,8 +59,8 @@ pub fn compare(count: u64, seed: u64, command: &[&str]) -> Result<Compared, Stri
 fn send(count: u64, seed: u64, input: ChildStdin, sender: Sender<Call>) {
     let mut chance = Chance::new(seed);
     let mut input = BufWriter::with_capacity(1 << 16, input);
-    for _ in 0..count {
-        let call = calls::call(&mut chance);
+    let by_chance = (0..count).map(|_| calls::call(&mut chance));
+    for call in cuts::every_cut().into_iter().chain(by_chance) {
         if input.write_all(&wire::call_bytes(&call)).is_err() || sender.send(call).is_err() {
             return;
         }
@@ -71,6 +72,7 @@ fn compare_all(count: u64, library: &mut Child, calls: Receiver<Call>) -> Compar
     let output = library.stdout.take().expect("a piped output");
     let mut output = BufReader::with_capacity(1 << 16, output);
     let mut tally = Tally::new();
+    let cuts = cuts::every_cut().len() as u64;
     let mut compared = 0;
     for call in calls {
         compared += 1;
@@ -83,23 +85,28 @@ fn compare_all(count: u64, library: &mut Child, calls: Receiver<Call>) -> Compar
         if told != bytes {
             return Err(difference(compared, &call, &expected, &told));
         }
-        tally.add(&call, &expected);
+        // What chance has to meet, the cuts do not meet for it.
+        if compared > cuts {
+            tally.add(&call, &expected);
+        }
     }
-    if compared < count {
+    if compared < count + cuts {
         return Err(format!("no call was taken after call {compared}\n"));
     }
     if output.read(&mut [0]).map_err(|why| why.to_string())? > 0 {
         return Err("the library's program answered more than it was asked\n".to_string());
     }
-    summary(count, &tally)
+    summary(count, cuts, &tally)
 }
 
-fn summary(count: u64, tally: &Tally) -> Compared {
+fn summary(count: u64, cuts: u64, tally: &Tally) -> Compared {
     let (text, never) = (tally.text(), tally.never_met());
     if count >= LONG && !never.is_empty() {
         return Err(format!("{text}never met: {}\n", never.join("; ")));
     }
-    Ok(format!("{text}{count} calls compared, no difference\n"))
+    Ok(format!(
+        "{text}{count} calls and {cuts} cuts compared, no difference\n"
+    ))
 }
 
 fn difference(number: u64, call: &Call, expected: &Answer, told: &[u8]) -> String {
