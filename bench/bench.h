@@ -7,10 +7,13 @@
 /* CURVES of the mix, and as many near misses. */
 enum { CURVES = 3000, ENDS = 2000, SHEETS = 8 };
 
+/* What a curve is; pre with c = 1, and with c above 1. A row takes some of these, or any. */
+enum { STILL = 1, NO = 2, PH = 4, PRE_ONE = 8, PRE_MORE = 16, PRE = PRE_ONE | PRE_MORE, ANY = 31 };
+
 struct curve {
     int64_t p[YARD_QUINTIC_NUMBERS];
     size_t count; /* of numbers */
-    int64_t verdict;
+    int is;
 };
 
 struct ends {
@@ -51,9 +54,8 @@ struct row {
     any_call *call;
     void (*pass)(const struct row *row);
     const struct curve *curves; /* that the pass is over; NULL where it is over other inputs */
-    int64_t verdict;            /* of the curves that it takes; ALL for every input */
+    int takes;                  /* which of the curves */
 };
-enum { ALL = -1 };
 extern const struct row rows[];
 extern const size_t row_count;
 

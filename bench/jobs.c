@@ -65,7 +65,7 @@ static int64_t plain_check_in_parts(const uint8_t *s, size_t len) {
 
 /* Whether the pass makes a call on input k. */
 static int has(const struct row *row, size_t k) {
-    return row->verdict == ALL || row->verdict == row->curves[k].verdict;
+    return row->takes == ANY || (row->takes & row->curves[k].is) != 0;
 }
 
 static void pass_recognise(const struct row *row) {
@@ -90,32 +90,34 @@ static void pass_report(const struct row *row) {
 }
 
 #define CALL(name) (any_call *)name
-#define RECOGNISERS(job, over, verdict) \
-    {job, "library", CALL(yard_recognise), pass_recognise, over, verdict}, \
-    {job, "plain", CALL(plain_recognise), pass_recognise, over, verdict}, \
-    {job, "plain, quick", CALL(plain_recognise_quick), pass_recognise, over, verdict}, \
-    {job, "plain, by legs", CALL(plain_recognise_by_legs), pass_recognise, over, verdict}
+#define RECOGNISERS(job, over, takes) \
+    {job, "library", CALL(yard_recognise), pass_recognise, over, takes}, \
+    {job, "plain", CALL(plain_recognise), pass_recognise, over, takes}, \
+    {job, "plain, quick", CALL(plain_recognise_quick), pass_recognise, over, takes}, \
+    {job, "plain, by legs", CALL(plain_recognise_by_legs), pass_recognise, over, takes}
 
 /* Rows of one job stand together, the library first. */
 const struct row rows[] = {
-    RECOGNISERS("recognise", curves, ALL),
+    RECOGNISERS("recognise", curves, ANY),
 #ifdef WITH_FLINT
-    {"recognise", "FLINT", CALL(flint_recognise), pass_recognise, curves, ALL},
+    {"recognise", "FLINT", CALL(flint_recognise), pass_recognise, curves, ANY},
 #endif
-    RECOGNISERS("recognise: no", curves, YARD_VERDICT_NO),
-    RECOGNISERS("recognise: near miss", near_misses, ALL),
-    RECOGNISERS("recognise: pre", curves, YARD_VERDICT_PRE),
-    RECOGNISERS("recognise: ph", curves, YARD_VERDICT_PH),
-    RECOGNISERS("recognise: still", curves, YARD_VERDICT_STILL),
-    {"joins", "library", CALL(yard_joins), pass_joins, NULL, ALL},
-    {"joins", "plain", CALL(plain_joins), pass_joins, NULL, ALL},
-    {"sheet check", "library", CALL(yard_check), pass_check, NULL, ALL},
-    {"sheet check", "plain", CALL(plain_check), pass_check, NULL, ALL},
-    {"sheet check, parts of 64", "library", CALL(check_in_parts), pass_check, NULL, ALL},
-    {"sheet check, parts of 64", "plain", CALL(plain_check_in_parts), pass_check, NULL, ALL},
-    {"sheet check, parts of 64", "library, whole", CALL(yard_check), pass_check, NULL, ALL},
-    {"report", "library", CALL(yard_report), pass_report, NULL, ALL},
-    {"report", "plain", CALL(plain_report), pass_report, NULL, ALL},
+    RECOGNISERS("recognise: no", curves, NO),
+    RECOGNISERS("recognise: near miss", near_misses, ANY),
+    RECOGNISERS("recognise: pre", curves, PRE),
+    RECOGNISERS("recognise: pre, c = 1", curves, PRE_ONE),
+    RECOGNISERS("recognise: pre, c > 1", curves, PRE_MORE),
+    RECOGNISERS("recognise: ph", curves, PH),
+    RECOGNISERS("recognise: still", curves, STILL),
+    {"joins", "library", CALL(yard_joins), pass_joins, NULL, ANY},
+    {"joins", "plain", CALL(plain_joins), pass_joins, NULL, ANY},
+    {"sheet check", "library", CALL(yard_check), pass_check, NULL, ANY},
+    {"sheet check", "plain", CALL(plain_check), pass_check, NULL, ANY},
+    {"sheet check, parts of 64", "library", CALL(check_in_parts), pass_check, NULL, ANY},
+    {"sheet check, parts of 64", "plain", CALL(plain_check_in_parts), pass_check, NULL, ANY},
+    {"sheet check, parts of 64", "library, whole", CALL(yard_check), pass_check, NULL, ANY},
+    {"report", "library", CALL(yard_report), pass_report, NULL, ANY},
+    {"report", "plain", CALL(plain_report), pass_report, NULL, ANY},
 };
 const size_t row_count = sizeof rows / sizeof *rows;
 

@@ -8,7 +8,7 @@
 #include <string.h>
 #include <time.h>
 
-enum { MOST_ROUNDS = 1001, MOST_ROWS = 40 };
+enum { MOST_ROUNDS = 1001, MOST_ROWS = 50 };
 
 /* The processor's time in nanoseconds, not the wall's: a long pass is interrupted more often than a short one. */
 static double now(void) {
@@ -65,7 +65,7 @@ static void print_medians(const struct row *row, const double *ns, const double 
 /* All rows in each round, so that what disturbs the machine disturbs all alike. The command is PARI's. */
 static void time_all(size_t rounds, const char *command) {
     static double ns[MOST_ROWS + 1][MOST_ROUNDS];
-    const struct row pari = {"recognise", "PARI", NULL, NULL, curves, ALL};
+    const struct row pari = {"recognise", "PARI", NULL, NULL, curves, ANY};
     for (size_t r = 0; r < rounds; r++) {
         for (size_t k = 0; k < row_count; k++)
             ns[k][r] = time_of(&rows[k]);

@@ -98,32 +98,31 @@ static void draw_still(struct curve *c) {
         c->p[k] = k < 2 ? part(20000) : c->p[k - 2];
 }
 
-static int is(const struct curve *c, int64_t verdict) {
+/* Notes what the curve is, and tells whether that was wanted. */
+static int is(struct curve *c, int wanted) {
     int64_t out[YARD_VERDICT_NUMBERS];
-    return plain_recognise(c->p, c->count, out, YARD_VERDICT_NUMBERS) >= 0 && out[0] == verdict;
+    if (plain_recognise(c->p, c->count, out, YARD_VERDICT_NUMBERS) < 0)
+        return 0;
+    c->is = out[0] == YARD_VERDICT_STILL ? STILL
+            : out[0] == YARD_VERDICT_NO  ? NO
+            : out[0] == YARD_VERDICT_PH  ? PH
+            : out[1] == 1                ? PRE_ONE
+                                         : PRE_MORE;
+    return (c->is & wanted) != 0;
 }
 
-/* A curve of that verdict; one that passes the range, or turns out otherwise, is drawn again. */
-static void draw_curve(struct curve *c, int64_t verdict) {
-    static void (*const how[])(struct curve *) = {
-        [YARD_VERDICT_STILL] = draw_still,
-        [YARD_VERDICT_NO] = draw_points,
-        [YARD_VERDICT_PH] = draw_with_real_factor,
-        [YARD_VERDICT_PRE] = draw_square,
-    };
-    c->verdict = verdict;
+/* A curve that is one of these; one that passes the range, or turns out otherwise, is drawn again. */
+static void draw_curve(struct curve *c, int wanted) {
+    void (*how)(struct curve *) = wanted == STILL ? draw_still : wanted == NO ? draw_points : wanted == PH ? draw_with_real_factor : draw_square;
     c->count = draw(2) ? YARD_CUBIC_NUMBERS : YARD_QUINTIC_NUMBERS;
     do
-        how[verdict](c);
-    while (!is(c, verdict));
+        how(c);
+    while (!is(c, wanted));
 }
 
 static void draw_curves(void) {
     for (size_t k = 0; k < CURVES; k++)
-        draw_curve(&curves[k], k % 12 < 6    ? YARD_VERDICT_NO
-                               : k % 12 < 10 ? YARD_VERDICT_PRE
-                               : k % 12 < 11 ? YARD_VERDICT_PH
-                                             : YARD_VERDICT_STILL);
+        draw_curve(&curves[k], k % 12 < 6 ? NO : k % 12 < 10 ? PRE : k % 12 < 11 ? PH : STILL);
     for (size_t k = CURVES - 1; k > 0; k--) {
         size_t other = draw(k + 1);
         struct curve kept = curves[k];
@@ -138,10 +137,9 @@ static void draw_near_misses(void) {
     for (size_t k = 0; k < CURVES; k++) {
         struct curve *c = &near_misses[k];
         do {
-            draw_curve(c, k % 5 < 4 ? YARD_VERDICT_PRE : YARD_VERDICT_PH);
+            draw_curve(c, k % 5 < 4 ? PRE : PH);
             c->p[2 + draw(c->count - 4)] += draw(2) ? 1 : -1;
-            c->verdict = YARD_VERDICT_NO;
-        } while (!is(c, c->verdict));
+        } while (!is(c, NO));
     }
 }
 

@@ -39,6 +39,7 @@ END {
     pari = "recognise/PARI"
     goal("recognise at least 170 times as fast as PARI", pari in ns, ratio[pari], "times", "least", 170)
     goal("recognise no slower than careful plain code", 1, 1 / ratio["recognise/plain"], "times its time", "most", 1)
+    goal("recognise in at most 110 ns", 1, ns["recognise/library"], "ns", "most", 110)
     goal("recognise: ph no slower than plain code", 1, 1 / ratio["recognise: ph/plain"], "times its time", "most", 1)
     counted = count["recognise/library"]
     goal("recognise in at most 400 instructions", counted ~ /^[0-9]+$/, counted, "instructions", "most", 400)
@@ -46,5 +47,6 @@ END {
     goal("a box of a thousand full sheets in at most 100 ms", 1, ns["box/library"] / 1000, "ms", "most", 100)
     whole = ratio["sheet check, parts of 64/library, whole"]
     goal("a full sheet in parts of 64 bytes in at most 3 times the whole check's time", 1, 1 / whole, "times", "most", 3)
+    goal("sheet check no slower than plain code", 1, 1 / ratio["sheet check/plain"], "times its time", "most", 1)
     goal("sheet check at least 2 GB/s", 1, 4096 / ns["sheet check/library"], "GB/s", "least", 2)
 }

@@ -1,6 +1,8 @@
 -- Division of pairs: a / b is a conj(b) over |b|².
 --   divides-over, over-divides       b q = a, and |b|² q = a conj(b) part by part, say the same
+--   norm-abs, norm-positive       the size of a norm is a sum of squares, and above 0 but at 0
 --   parts-below-norm       no part of a pair is larger than its norm
+--   over-within            the parts of a conj(b) are at most B |b|², where those of a are at most B
 --   over-norm              a conj(b) over |b|² is a over b
 --   undivided-none         what is n times a pair is divided by n
 --   share-once, over-whole-once, quotient-once       an exact quotient has one answer
@@ -8,9 +10,13 @@
 --   divisor-within         a divisor of a pair other than 0 is no larger than that pair
 --   norm-within            a norm is at most twice the square of the size of the parts
 --   nearest-once           a nearest quotient has one answer
---   nearest-within         it is no larger than a
+--   part-within            a quotient of x / d that leaves less than d over is no larger than x / d allows
+--   nearest-within         a nearest quotient is no larger than a
+--   over-left, left-size   |a − q b|² |b|² = |a conj(b) − |b|² q|²
 --   nearest-half           it leaves at most half over: 2 |a − q b|² ≤ |b|²
---   rest-sum, rest-within, rest-less       what it leaves over: q b + r = a, where r is no larger than b and has a smaller norm
+--   nearest-less, nearest-rest-within      so what it leaves over has a smaller norm than b, and is no larger
+--   back-sum               t + (a − t) = a
+--   root-within            the parts of a pair are at most the root of its norm
 use mathlib.Core.Path.{_≡_, refl, sym, ap, _∙_, subst}
 use mathlib.Core.List.{[], _∷_}
 use mathlib.Core.Logic.{_≢_, _↔_, inl, inr}
@@ -38,7 +44,6 @@ use Rattle.pair.proofs.Laws.{times-comm, pairs-ring, pairs-domain, root-le, nor
 use Rattle.divisor.specs.declared.PairQuotient.{PairQuotient}
 use Rattle.divisor.specs.declared.PairQuotient.the-variants.{Whole, None}
 use Rattle.divisor.specs.Promise.{IsPairQuotient, Undivided, IsOverWhole, NearestPair}
-use Rattle.divisor.specs.Steps.{Rest}
 
 -- ---- identities, for a = x + iy, b = u + iv and q = p + iq
 module _ (x y u v p q : ℤ) where
@@ -74,7 +79,7 @@ there-im : (u v p q : ℤ) → (u *ℤ p -ℤ v *ℤ q) *ℤ negℤ v +ℤ (u *�
 there-im u v p q = atomsℤ (u ∷ v ∷ p ∷ q ∷ []) (λ ρ e. simp (e 0, e 1, e 2, e 3, readℤ) (ringℤ ρ _ _ tt))
 
 -- ---- the parts of a conj(b) are at most B |b|², where a's are at most B
-norm-abs : (b : Pair) → natAbs (norm b) ≡ natAbs (b .re) * natAbs (b .re) + natAbs (b .im) * natAbs (b .im)
+pub norm-abs : (b : Pair) → natAbs (norm b) ≡ natAbs (b .re) * natAbs (b .re) + natAbs (b .im) * natAbs (b .im)
 norm-abs b = ap natAbs (norm-size b)
 
 square-above : (n : ℕ) → n ≤ n * n
@@ -94,7 +99,7 @@ sum-within u v p r e f h k = record { size = omega (arith, abs-plus p r, mul-le-
 abs-times-negative : (y v : ℤ) → natAbs (y *ℤ negℤ v) ≡ natAbs y * natAbs v
 abs-times-negative y v = abs-times y (negℤ v) ∙ ap (λ (n : ℕ). natAbs y * n) (abs-negative v)
 
-over-within : {B : ℕ} {a : Pair} (b : Pair) → PartsWithin B a → PartsWithin (B * natAbs (norm b)) (times a (conjugate b))
+pub over-within : {B : ℕ} {a : Pair} (b : Pair) → PartsWithin B a → PartsWithin (B * natAbs (norm b)) (times a (conjugate b))
 over-within {a} b h =
     let x = a .re in
     let y = a .im in
@@ -162,9 +167,9 @@ pub nearest-once : (a b p q : Pair) → NearestPair a b p → NearestPair a b q 
 nearest-once a b p q h k =
     pair-equal (whole.nearest-once _ _ (p .re) (q .re) (h .re) (k .re)) (whole.nearest-once _ _ (p .im) (q .im) (h .im) (k .im))
 
--- |q| ≤ B, where q is nearest to x / d and |x| ≤ B d
-part-within : {B : ℕ} {x d q : ℤ} → pos 0 <ℤ d → Within (B * natAbs d) x → Nearest x d q → Within B q
-part-within {B} {x} {d} {q} p h k = record { size = by (decLe (natAbs q) B) }
+-- |q| ≤ B, where |x| ≤ B d and q leaves less than d over
+pub part-within : {B : ℕ} {x q : ℤ} (d : ℤ) → Within (B * natAbs d) x → natAbs (x -ℤ q *ℤ d) < natAbs d → Within B q
+part-within {B} {x} {q} d h k = record { size = by (decLe (natAbs q) B) }
   where
     product : natAbs q * natAbs d ≤ natAbs x + natAbs (x -ℤ q *ℤ d)
     product =
@@ -175,12 +180,15 @@ part-within {B} {x} {d} {q} p h k = record { size = by (decLe (natAbs q) B) }
     by (yes l) = l
     by (no l) =
         let m : suc B ≤ natAbs q = omega arith in
-        absurd (omega (linear, h .size, product, nearest-close k, mul-le-mul m (le-refl (natAbs d)), abs-parts d))
+        absurd (omega (arith, h .size, product, mul-le-mul m (le-refl (natAbs d))))
 
 pub nearest-within : {B : ℕ} {a b q : Pair} → PartsWithin B a → b ≢ pairs .none → NearestPair a b q → PartsWithin B q
 nearest-within {b} h n k =
     let o = over-within b h in
-    record { re = part-within (norm-some b n) (o .re) (k .re); im = part-within (norm-some b n) (o .im) (k .im) }
+    record { re = part-within (norm b) (o .re) (below (k .re)); im = part-within (norm b) (o .im) (below (k .im)) }
+  where
+    below : {x y : ℤ} → Nearest x (norm b) y → natAbs (x -ℤ y *ℤ norm b) < natAbs (norm b)
+    below l = let p = norm-some b n in omega (linear, nearest-close l, abs-parts (norm b))
 
 -- n d = x² + y², where 2 x and 2 y are at most d
 half : (n d x y : ℕ) → 0 < d → 2 * x ≤ d → 2 * y ≤ d → n * d ≡ x * x + y * y → 2 * n ≤ d
@@ -195,36 +203,46 @@ half-size r b = by (norm r) (norm b) (norm-nonneg r) (norm-nonneg b)
       λ h. omega (linear, times-parts (pos 2) m, abs-parts m, abs-parts n, one-part m, one-part n),
     )
 
+-- a conj(b) − |b|² q
+abbrev pub over-left : Pair → Pair → Pair → Pair
+over-left a b q = pair (times a (conjugate b) .re -ℤ q .re *ℤ norm b) (times a (conjugate b) .im -ℤ q .im *ℤ norm b)
+
+pub left-size : (a b q : Pair) → natAbs (norm (minus a (times q b))) * natAbs (norm b) ≡ natAbs (norm (over-left a b q))
+left-size a b q = sym (abs-times (norm (minus a (times q b))) (norm b)) ∙ ap natAbs (over-rest (a .re) (a .im) (b .re) (b .im) (q .re) (q .im))
+
+pub norm-positive : (b : Pair) → b ≢ pairs .none → 0 < natAbs (norm b)
+norm-positive b n = let h = norm-some b n in omega (linear, abs-parts (norm b))
+
 pub nearest-half : {a b q : Pair} → b ≢ pairs .none → NearestPair a b q → (pos 2 *ℤ norm (minus a (times q b))) ≤ℤ norm b
 nearest-half {a} {b} {q} n k =
+    let r = minus a (times q b) in
     half-size r b .0
-    (half (natAbs (norm r)) (natAbs (norm b)) _ _ (let h = norm-some b n in omega (linear, abs-parts (norm b))) (nearest-close (k .re)) (nearest-close (k .im))
-    (sym (abs-times (norm r) (norm b)) ∙ ap natAbs (over-rest (a .re) (a .im) (b .re) (b .im) (q .re) (q .im)) ∙ norm-abs left))
-  where
-    r : Pair
-    r = minus a (times q b)
+    (half (natAbs (norm r)) (natAbs (norm b)) _ _ (norm-positive b n) (nearest-close (k .re)) (nearest-close (k .im)) (left-size a b q ∙ norm-abs (over-left a b q)))
 
-    left : Pair
-    left = pair (times a (conjugate b) .re -ℤ q .re *ℤ norm b) (times a (conjugate b) .im -ℤ q .im *ℤ norm b)
-
--- ---- what a nearest quotient leaves over
-pub rest-sum : {a b r : Pair} (h : Rest a b r) → plus (times (h .quotient) b) r ≡ a
-rest-sum {a} {b} h = let t = times (h .quotient) b in ap (plus t) (sym (h .is)) ∙ pair-equal (back (t .re) (a .re)) (back (t .im) (a .im))
+-- ---- what is left over
+pub back-sum : (a t : Pair) → plus t (minus a t) ≡ a
+back-sum a t = pair-equal (back (t .re) (a .re)) (back (t .im) (a .im))
   where
     back : (t x : ℤ) → t +ℤ (x -ℤ t) ≡ x
     back t x = atomsℤ (t ∷ x ∷ []) (λ ρ e. simp (e 0, e 1, readℤ) (ringℤ ρ _ _ tt))
 
-rest-half : {a b r : Pair} → b ≢ pairs .none → Rest a b r → 2 * natAbs (norm r) ≤ natAbs (norm b)
-rest-half {b} {r} n h = half-size r b .1 (subst (λ r. (pos 2 *ℤ norm r) ≤ℤ norm b) (h .is) (nearest-half n (h .nearest)))
+-- |r|² ≤ B²
+pub root-within : {B : ℕ} {r : Pair} → natAbs (norm r) ≤ B * B → PartsWithin B r
+root-within {B} {r} l = record {
+  re = record { size = root-le (natAbs (r .re)) B (omega (arith, norm-abs r)) };
+  im = record { size = root-le (natAbs (r .im)) B (omega (arith, norm-abs r)) };
+}
+
+nearest-half-size : {a b q : Pair} → b ≢ pairs .none → NearestPair a b q → 2 * natAbs (norm (minus a (times q b))) ≤ natAbs (norm b)
+nearest-half-size {a} {b} {q} n k = half-size (minus a (times q b)) b .1 (nearest-half n k)
+
+pub nearest-less : {a b q : Pair} → b ≢ pairs .none → NearestPair a b q → natAbs (norm (minus a (times q b))) < natAbs (norm b)
+nearest-less {b} n k = let p = norm-some b n in omega (linear, nearest-half-size n k, abs-parts (norm b))
 
 -- |r|² ≤ |b|² / 2 ≤ B²
-pub rest-within : {B : ℕ} {a b r : Pair} → PartsWithin B b → b ≢ pairs .none → Rest a b r → PartsWithin B r
-rest-within {B} {b} {r} k n h =
-    let l : natAbs (norm r) ≤ B * B = omega (arith, rest-half n h, norm-abs b, mul-le-mul (k .re .size) (k .re .size), mul-le-mul (k .im .size) (k .im .size)) in
-    record { re = record { size = root-le (natAbs (r .re)) B (omega (arith, norm-abs r)) }; im = record { size = root-le (natAbs (r .im)) B (omega (arith, norm-abs r)) } }
-
-pub rest-less : {a b r : Pair} → b ≢ pairs .none → Rest a b r → natAbs (norm r) < natAbs (norm b)
-rest-less {b} n h = let p = norm-some b n in omega (linear, rest-half n h, abs-parts (norm b))
+pub nearest-rest-within : {B : ℕ} {a b q : Pair} → PartsWithin B b → b ≢ pairs .none → NearestPair a b q → PartsWithin B (minus a (times q b))
+nearest-rest-within {b} k n h =
+    root-within (omega (arith, nearest-half-size n h, norm-abs b, mul-le-mul (k .re .size) (k .re .size), mul-le-mul (k .im .size) (k .im .size)))
 
 pub norm-within : {B C : ℕ} {b : Pair} → B * B + B * B ≤ C → PartsWithin B b → Within C (norm b)
 norm-within {b = b} l h = record { size = omega (arith, ap natAbs (norm-size b), mul-le-mul (h .re .size) (h .re .size), mul-le-mul (h .im .size) (h .im .size)) }

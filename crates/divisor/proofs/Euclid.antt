@@ -3,7 +3,7 @@
 --   pairs-euclid          the remainder of a nearest quotient has at most half of the divisor's norm
 --   pairs-bezout          so any two pairs have a common divisor a x + b y
 -- With `pairs-ring` and `pairs-domain` (pair, Laws) these are all that the crate `poly` asks for.
-use mathlib.Core.Path.{_≡_, refl, sym, ap}
+use mathlib.Core.Path.{_≡_, sym, ap}
 use mathlib.Core.List.{[], _∷_}
 use mathlib.Core.Logic.{_≢_, _⊎_, inl, inr}
 use Prim.Native.Nat.{_<_}
@@ -19,8 +19,7 @@ use Rattle.poly.proofs.Euclid.{Euclid, euclid-bezout}
 use Rattle.pair.specs.declared.Pair.{Pair}
 use Rattle.pair.specs.Pairs.{pair, pairs, plus, minus, times, conjugate, norm}
 use Rattle.pair.proofs.Laws.{pairs-ring, pairs-domain, norm-some, pair-zero?}
-use Rattle.divisor.specs.Steps.{Rest}
-use Rattle.divisor.proofs.Division.{rest-sum, rest-less}
+use Rattle.divisor.proofs.Division.{back-sum, nearest-less}
 
 moved : (n d q r k : ℤ) → q *ℤ d +ℤ r ≡ n → n -ℤ (q +ℤ k) *ℤ d ≡ r -ℤ k *ℤ d
 moved n d q r k f =
@@ -56,9 +55,7 @@ pairs-divided a b n =
     let x = nearest-exists (times a (conjugate b) .re) (norm b) (norm-some b n) in
     let y = nearest-exists (times a (conjugate b) .im) (norm b) (norm-some b n) in
     let q = pair (x .0) (y .0) in
-    let r = minus a (times q b) in
-    let h : Rest a b r = record { quotient = q; nearest = record { re = x .1; im = y .1 }; is = refl } in
-    (q, r, rest-sum h, rest-less n h)
+    (q, minus a (times q b), back-sum a (times q b), nearest-less {a = a} n (record { re = x .1; im = y .1 }))
 
 abbrev pub pairs-euclid : Euclid pairs
 pairs-euclid = record { zero? = pair-zero?; size = λ a. natAbs (norm a); divided = pairs-divided }

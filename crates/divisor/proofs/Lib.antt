@@ -2,6 +2,7 @@
 pub mod Division
 pub mod Divisors
 pub mod Roots
+pub mod Rounding
 pub mod Halves
 pub mod Euclid
 pub mod Units

@@ -12,13 +12,21 @@ ghost use mathlib.Core.Path.{_≡_};
 ghost use mathlib.Core.List.{_∷_, []};
 ghost use mathlib.Core.Logic.{_≢_};
 ghost use Prim.Native.Nat.{_*_, _^_};
-ghost use lib.IntN.{pos};
+ghost use lib.IntN.{pos, natAbs};
 ghost use lib.Signed.{_≤ℤ_, _<ℤ_};
 ghost use Rattle.whole.specs.Number.{Within};
 ghost use Rattle.whole.specs.Coefficients.{Divides, Greatest};
-ghost use Rattle.pair.specs.Pairs.{pairs, times, conjugate, norm, PartsWithin};
+ghost use Rattle.pair.specs.Pairs.{pair, pairs, times, conjugate, norm, PartsWithin};
 ghost use Rattle.divisor.specs.Promise.{IsPairQuotient, IsOverWhole, NearestPair, IsPairRoot};
-ghost use Rattle.divisor.specs.Steps.{Rest, HalfRoot, Candidate};
+ghost use Rattle.divisor.specs.Steps.{rounded as roundedOf, Near, Rest, HalfRoot, Candidate};
+
+// 2^42, by way of which one division serves both parts of a quotient: n / d is near to n times SCALE / d, over SCALE.
+const SCALE: i64 = 4398046511104;
+
+const HALF_SCALE: i64 = 2199023255552;
+
+// 2^36: up to here |b|^2 is small enough for SCALE to tell a near quotient.
+const NEAR_NORM: i64 = 68719476736;
 
 // A quotient that has to be a pair.
 pub enum PairQuotient {
@@ -71,18 +79,18 @@ pub fn quotient(a: Pair, b: Pair) -> PairQuotient
     over_whole(numerator(a, b), norm(b))
 }
 
-// a / b, which is known to be a pair.
+// a / b, which is known to be a pair. What SCALE / |b|^2 + 1 has too much is cut off again.
 pub fn share(a: Pair, b: Pair) -> Pair
     requires { ⌜ PartsWithin (2 ^ 20) a × PartsWithin (2 ^ 20) b × (b ≢ pairs .none) × Divides pairs b a ⌝ }
     ensures { λ q. ⌜ times b q ≡ a ⌝ }
 {
     let n = numerator(a, b);
-    let d = norm(b);
+    let r = SCALE / norm(b) + 1;
     let x = n.re;
     let y = n.im;
     Pair {
-        re: whole::share(x, d),
-        im: whole::share(y, d),
+        re: x * r / SCALE,
+        im: y * r / SCALE,
     }
 }
 
@@ -101,12 +109,38 @@ pub fn nearest(a: Pair, b: Pair) -> Pair
     }
 }
 
+// n / d to the nearest, but for what SCALE / d cut down leaves out.
+fn rounded(n: Pair, d: i64) -> Pair
+    requires { ⌜ (pos 0 <ℤ d) × PartsWithin (2 ^ 20 * natAbs d) n ⌝ }
+    ensures { λ q. ⌜ q ≡ pair (roundedOf (n .re) d) (roundedOf (n .im) d) ⌝ }
+{
+    let r = SCALE / d;
+    let x = n.re;
+    let y = n.im;
+    Pair {
+        re: (x * r + HALF_SCALE) >> 42,
+        im: (y * r + HALF_SCALE) >> 42,
+    }
+}
+
+// A pair near a / b, by one division for all but the largest b.
+fn near(a: Pair, b: Pair) -> Pair
+    requires { ⌜ PartsWithin (2 ^ 20) a × PartsWithin (2 ^ 20) b × (b ≢ pairs .none) ⌝ }
+    ensures { λ q. ⌜ Near a b q ⌝ }
+{
+    let d = norm(b);
+    if d > NEAR_NORM {
+        return nearest(a, b);
+    }
+    rounded(numerator(a, b), d)
+}
+
 // What is left of a over b.
 fn rest(a: Pair, b: Pair) -> Pair
     requires { ⌜ PartsWithin (2 ^ 20) a × PartsWithin (2 ^ 20) b × (b ≢ pairs .none) ⌝ }
     ensures { λ r. ⌜ Rest a b r ⌝ }
 {
-    difference(a, product(nearest(a, b), b))
+    difference(a, product(near(a, b), b))
 }
 
 // The greatest common divisor of two pairs, by Euclid's loop. A zero in a list takes no step.

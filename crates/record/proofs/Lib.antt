@@ -1,6 +1,7 @@
 -- What the proofs share, and what other crates may cite.
 pub mod Table
 pub mod Words
+pub mod Heads
 pub mod Signs
 pub mod Loops
 pub mod Pieces

@@ -1,9 +1,9 @@
 -- What the loops over bytes and numbers carry from turn to turn: the definition from here on equals the definition from the start.
 --   erased-all, erased-stop, erased-more    the bytes FF that a list begins with
---   within-none, within-fail, within-pass   the coordinates of a record
+--   within-none, within-fail, within-pass   the coordinates of a record, with what was seen of them
 --   numbers-none, numbers-fail, numbers-pass, numbers-at   a list of numbers
-use mathlib.Core.Path.{_≡_, refl}
-use mathlib.Core.Bool.{true, false}
+use mathlib.Core.Path.{_≡_, sym}
+use mathlib.Core.Bool.{Bool, true, false, _&&_, and-true, and-false}
 use mathlib.Core.List.{List, [], _∷_}
 use Prim.Native.Nat.{ℕ, zero, suc, _+_, _-_, _≤_, _<_}
 use native.Mathlib.Omega.{arith}
@@ -35,25 +35,25 @@ pub erased-more : (s : List ℕ) (i : ℕ) → i < length s → getD s i 0 ≡ e
 unfolding if_then_else_
 erased-more s i h k = rw (drop-cons s i 0 h, eq-eqb _ _ k, add-one) (omega arith)
 
--- ---- a record's coordinates
+-- ---- a record's coordinates: whether those seen are within the range, and what is left of them
 
-pub within-none : (s : List ℕ) (at left : ℕ) → left ≤ 0 → true ≡ allWithin (coordinates left s at)
-unfolding coordinates allWithin
-within-none s at zero l = refl
-within-none s at (suc m) l = absurd (omega arith)
+module _ (seen : Bool) (s : List ℕ) (at : ℕ) where
+  pub within-none : (left : ℕ) → left ≤ 0 → seen ≡ seen && allWithin (coordinates left s at)
+  unfolding coordinates allWithin
+  within-none zero l = sym (and-true seen)
+  within-none (suc m) l = absurd (omega arith)
 
-pub within-fail :
-    (s : List ℕ) (at left : ℕ) → 0 < left → leb (natAbs (signedOf (wordAt s at))) coordinateReach ≡ false → false ≡ allWithin (coordinates left s at)
-unfolding coordinates allWithin
-within-fail s at zero l e = absurd (omega arith)
-within-fail s at (suc m) l e = rw e
+  pub within-fail : {next : Bool} (left : ℕ) → 0 < left → leb (natAbs (signedOf (wordAt s at))) coordinateReach ≡ false → next ≡ false →
+      next && allWithin (coordinates (left - 1) s (at + 4)) ≡ seen && allWithin (coordinates left s at)
+  unfolding coordinates allWithin
+  within-fail zero l e n = absurd (omega arith)
+  within-fail (suc m) l e n = rw (n, e) (sym (and-false seen))
 
-pub within-pass :
-    (s : List ℕ) (at left : ℕ) → 0 < left → leb (natAbs (signedOf (wordAt s at))) coordinateReach ≡ true →
-    allWithin (coordinates (left - 1) s (at + 4)) ≡ allWithin (coordinates left s at)
-unfolding coordinates allWithin
-within-pass s at zero l e = absurd (omega arith)
-within-pass s at (suc m) l e = let q : suc m - 1 ≡ m = omega arith in rw (e, q)
+  pub within-pass : {next : Bool} (left : ℕ) → 0 < left → leb (natAbs (signedOf (wordAt s at))) coordinateReach ≡ true → next ≡ seen →
+      next && allWithin (coordinates (left - 1) s (at + 4)) ≡ seen && allWithin (coordinates left s at)
+  unfolding coordinates allWithin
+  within-pass zero l e n = absurd (omega arith)
+  within-pass (suc m) l e n = let q : suc m - 1 ≡ m = omega arith in rw (n, e, q)
 
 -- ---- a list of numbers
 

@@ -1,6 +1,6 @@
 -- A coordinate as a signed number and as four bytes' worth of bits.
 --   word-within, word-outside   one comparison tells whether a word, read as signed, is from −20,000 to 20,000
---   neg-is, neg-room, low-half, high-half   how the machine negates a word, and reads one as signed
+--   neg-is, neg-room, moved-room, moved-back   how the machine negates a word, and reads one as signed
 --   below-zero, from-zero       how the machine turns a number in range into its word
 --   word-room, word-kept, word-stored   what the machine asks of that word
 --   bits-small, signed-bits     a number in range has a word, which reads back as the number
@@ -19,6 +19,7 @@ use mir.Val.{Fits, SFits, toZ, ofZ}
 use mir.ValLaws.{toZ-pos, toZ-ofZ}
 use borrow.Author.Tests.{lt-ltb, le-ltb, le-leb, lt-leb, ltb-true, ltb-false}
 use Rattle.whole.specs.Number.{Within}
+use Rattle.whole.proofs.Linear.{linear, minus-parts, negative-parts, one-part}
 use Rattle.pair.specs.declared.Pair.{Pair}
 use Rattle.refusal.specs.Answers.{if_then_else_}
 use Rattle.curve.specs.Sizes.{coordinateReach}
@@ -58,14 +59,27 @@ neg-is m l = ap (λ (z : ℤ). pos 0 -ℤ z) (toZ-pos w64 m l) ∙ +ℤ-idl (neg
 pub neg-room : (m : ℕ) → m < 9223372036854775808 → SFits w64 (pos 0 -ℤ toZ w64 m)
 neg-room m l = subst (SFits w64) (sym (neg-is m l)) (neg-fits m l)
 
-pub low-half : (w : ℕ) → w < 2147483648 → toZ w64 w ≡ signedOf w
-unfolding signedOf if_then_else_
-low-half w l = rw (lt-ltb w 2147483648 l) (toZ-pos w64 w (omega arith))
+-- w moved up by 2^31 below 2^32, and down again
+module _ (w : ℕ) (small : w < 4294967296) where
+  abbrev m : ℕ
+  m = (w + 2147483648) % 4294967296
 
-pub high-half : (w : ℕ) → 2147483648 ≤ w → toZ w64 (ofZ w64 (pos 0 -ℤ toZ w64 (4294967296 - w))) ≡ signedOf w
-unfolding signedOf if_then_else_
-high-half w l =
-    rw (le-ltb w 2147483648 l) (toZ-ofZ w64 _ (neg-room (4294967296 - w) (omega arith)) ∙ neg-is (4294967296 - w) (omega arith))
+  moved-low : w < 2147483648 → pos m -ℤ pos 2147483648 ≡ signedOf w
+  unfolding signedOf if_then_else_
+  moved-low l = rw (lt-ltb w 2147483648 l) (omega (linear, minus-parts (pos m) (pos 2147483648)))
+
+  moved-high : 2147483648 ≤ w → pos m -ℤ pos 2147483648 ≡ signedOf w
+  unfolding signedOf if_then_else_
+  moved-high l = rw (le-ltb w 2147483648 l) (omega (linear, minus-parts (pos m) (pos 2147483648), negative-parts (pos (4294967296 - w))))
+
+  m-kept : toZ w64 m ≡ pos m
+  m-kept = toZ-pos w64 m (omega arith)
+
+  pub moved-room : SFits w64 (toZ w64 m -ℤ pos 2147483648)
+  moved-room = rw m-kept (omega (linear, minus-parts (pos m) (pos 2147483648), one-part (pos m -ℤ pos 2147483648)))
+
+  pub moved-back : toZ w64 (ofZ w64 (toZ w64 m -ℤ pos 2147483648)) ≡ signedOf w
+  moved-back = toZ-ofZ w64 _ moved-room ∙ ap (λ (z : ℤ). z -ℤ pos 2147483648) m-kept ∙ by-order 2147483648 w moved-high moved-low
 
 -- a signed number that a call gave, once it has been stored
 pub settled : {z y : ℤ} → mag z < 9223372036854775808 → z ≡ y → toZ w64 (ofZ w64 z) ≡ y

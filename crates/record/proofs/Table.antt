@@ -1,5 +1,6 @@
 -- Laws of the table of kinds.
 --   row-known        what holds of every row: the one place that goes through the table
+--   same-name, same-kind   a name is looked for by its two bytes alone
 --   named-is         a name that was found is that of the kind
 --   known-kind       and the name of a kind is found as that kind's
 --   own-name         a record with a kind's name is named so
@@ -20,8 +21,9 @@ use Rattle.record.specs.declared.kinds.Kind.the-variants.{Cubic, Quintic
 use Rattle.record.specs.declared.kinds.Named.{Named}
 use Rattle.record.specs.declared.kinds.Named.the-variants as named-as
 use Rattle.record.specs.declared.kinds.Row.{Row}
-use Rattle.record.specs.Numbers.{written, AllBytes}
+use Rattle.record.specs.Numbers.{wordBytes, written, AllBytes}
 use Rattle.record.specs.Kinds.{rowOf, longestRecord, kinds, words, formed}
+use Rattle.record.specs.Steps.{headWord}
 use Rattle.record.specs.Records.{named, kindIn}
 
 -- the bytes of a record's head, as far as its name matters
@@ -32,6 +34,7 @@ pub record RowKnown (k : Kind) : Type 0 where
   pub two : rowOf k .name ≡ getD (rowOf k .name) 0 0 ∷ getD (rowOf k .name) 1 0 ∷ []
   pub found : kindIn kinds (head (getD (rowOf k .name) 0 0) (getD (rowOf k .name) 1 0)) ≡ named-as.Kind k
   pub name-bytes : AllBytes (rowOf k .name)
+  pub head-is : wordBytes (headWord k) ≡ formed k []
   pub long : 4 < rowOf k .size
   pub short : rowOf k .size ≤ longestRecord
   pub holds : 4 + 4 * words k ≤ rowOf k .size
@@ -40,11 +43,10 @@ pub record RowKnown (k : Kind) : Type 0 where
 
 pub row-known : (k : Kind) → RowKnown k
 unfolding kindIn named words if_then_else_
-row-known Cubic = record { two = refl; found = refl; name-bytes = (omega arith, (omega arith, tt)); long = omega arith; short = omega arith; holds = omega arith; curve-long = λ _. omega arith; curve-holds = λ _. refl }
-row-known Quintic = record { two = refl; found = refl; name-bytes = (omega arith, (omega arith, tt)); long = omega arith; short = omega arith; holds = omega arith; curve-long = λ _. omega arith; curve-holds = λ _. refl }
+row-known Cubic = record { two = refl; found = refl; name-bytes = (omega arith, (omega arith, tt)); head-is = refl; long = omega arith; short = omega arith; holds = omega arith; curve-long = λ _. omega arith; curve-holds = λ _. refl }
+row-known Quintic = record { two = refl; found = refl; name-bytes = (omega arith, (omega arith, tt)); head-is = refl; long = omega arith; short = omega arith; holds = omega arith; curve-long = λ _. omega arith; curve-holds = λ _. refl }
 
--- a name is looked for by its two bytes alone
-same-name : (k : Kind) (s t : List ℕ) → getD s 2 0 ≡ getD t 2 0 → getD s 3 0 ≡ getD t 3 0 → named k s ≡ named k t
+pub same-name : (k : Kind) (s t : List ℕ) → getD s 2 0 ≡ getD t 2 0 → getD s 3 0 ≡ getD t 3 0 → named k s ≡ named k t
 unfolding named
 same-name k s t p q = rw (p, q)
 

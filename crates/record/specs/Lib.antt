@@ -3,3 +3,4 @@ pub mod Numbers
 pub mod Kinds
 pub mod Records
 pub mod Promise
+pub mod Steps

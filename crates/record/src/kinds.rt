@@ -1,6 +1,8 @@
 // The table of kinds. No other place knows a kind's name or length.
 ghost use mathlib.Core.Path.{_≡_};
 ghost use Rattle.record.specs.Kinds.{rowOf, words as wordsOf};
+ghost use Rattle.record.specs.Steps.{headWord};
+use crate::numbers::half_at;
 
 // No kind's record has more bytes than this.
 pub const LONGEST_RECORD: usize = 52;
@@ -41,6 +43,15 @@ pub fn row_of(kind: Kind) -> Row
             curve: true,
         },
     }
+}
+
+// The head of a kind's records as a word: their length, then its name.
+pub(crate) fn head_word(kind: Kind) -> u64
+    ensures { λ r. ⌜ r ≡ headWord kind ⌝ }
+{
+    let row = row_of(kind);
+    let name = row.name;
+    row.size as u64 + 65536 * half_at(&name, 0)
 }
 
 // How many coordinates a record of the kind holds.

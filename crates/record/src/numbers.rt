@@ -14,7 +14,7 @@ fn wide(x: u8) -> u64
 
 pub(crate) fn half_at(bytes: &[u8], at: usize) -> u64
     requires { ⌜ at + 2 ≤ length (now bytes) ⌝ }
-    ensures { λ r. ⌜ r ≡ halfAt (now (bytes .entry)) at ⌝ }
+    ensures { λ r. ⌜ (r ≡ halfAt (now (bytes .entry)) at) × (r < 65536) ⌝ }
 {
     wide(bytes[at]) + 256 * wide(bytes[at + 1])
 }
@@ -29,17 +29,13 @@ pub fn word_at(bytes: &[u8], at: usize) -> u64
         + 16777216 * wide(bytes[at + 3])
 }
 
-// A word as a signed number: no cast does that without a proof that nothing is lost.
+// A word as a signed number: no cast does that without a proof that nothing is lost. Up by 2^31 and down again takes no test.
 pub(crate) fn signed(w: u64) -> i64
     requires { ⌜ w < 4294967296 ⌝ }
     ensures { λ r. ⌜ r ≡ signedOf w ⌝ }
 {
-    if w < 2147483648 {
-        w as i64
-    } else {
-        let m = 4294967296 - w;
-        -(m as i64)
-    }
+    let moved = (w + 2147483648) % 4294967296;
+    moved as i64 - 2147483648
 }
 
 // The word of a number in range.

@@ -4,9 +4,11 @@ ghost use Prim.Native.Nat.{_+_, _*_, _≤_};
 ghost use lib.ListN.{length};
 ghost use Rattle.record.specs.Numbers.{coordinates};
 ghost use Rattle.record.specs.Kinds.{kinds};
-ghost use Rattle.record.specs.Records.{erasedBytes, erasedEnd, erasedStep, named, kindIn, allWithin, sizedStep, kindStep, stepOf};
+ghost use Rattle.record.specs.Records.{erasedBytes, erasedEnd, erasedStep, named, kindIn, allWithin, stepOf};
+ghost use Rattle.record.specs.Steps.{Headed, Headless};
 use crate::kinds::Kind;
 use crate::kinds::Named;
+use crate::kinds::head_word;
 use crate::kinds::row_of;
 use crate::kinds::words;
 use crate::numbers::half_at;
@@ -90,28 +92,26 @@ fn all_within(rest: &[u8], words: usize) -> bool
     requires { ⌜ 4 + 4 * words ≤ length (now rest) ⌝ }
     ensures { λ r. ⌜ r ≡ allWithin (coordinates words (now (rest .entry)) 4) ⌝ }
 {
+    let mut within = true;
     let mut at: usize = 4;
     let mut left = words;
+    // No coordinate ends the loop: so the compiler tests four at a time.
     while left > 0 {
         if (word_at(rest, at) + 20000) % 4294967296 > 40000 {
-            return false;
+            within = false;
         }
         at += 4;
         left -= 1;
     }
-    true
+    within
 }
 
-// A record of a known kind.
+// A record with its kind's head. Each call names the kind, so that the compiler knows how many coordinates it has.
 fn record_step(rest: &[u8], kind: Kind) -> Step
-    requires { ⌜ 2 ≤ length (now rest) ⌝ }
-    ensures { λ r. ⌜ r ≡ sizedStep kind (now (rest .entry)) ⌝ }
+    requires { ⌜ Headed kind (now rest) ⌝ }
+    ensures { λ r. ⌜ r ≡ stepOf (now (rest .entry)) ⌝ }
 {
-    let size = row_of(kind).size;
-    let said = half_at(rest, 0);
-    if said != size as u64 {
-        Step::Fault(Refusal::Length, 0)
-    } else if rest.len() < size {
+    if rest.len() < row_of(kind).size {
         Step::Fault(Refusal::Cut, 0)
     } else if all_within(rest, words(kind)) {
         Step::Record(kind)
@@ -120,30 +120,9 @@ fn record_step(rest: &[u8], kind: Kind) -> Step
     }
 }
 
-// An arm for each kind, so that the compiler knows how many coordinates it has.
-fn sized_step(rest: &[u8], kind: Kind) -> Step
-    requires { ⌜ 2 ≤ length (now rest) ⌝ }
-    ensures { λ r. ⌜ r ≡ sizedStep kind (now (rest .entry)) ⌝ }
-{
-    match kind {
-        Kind::Cubic => record_step(rest, Kind::Cubic),
-        Kind::Quintic => record_step(rest, Kind::Quintic),
-    }
-}
-
-// A record of whatever kind its name says.
-fn kind_step(rest: &[u8]) -> Step
-    requires { ⌜ 4 ≤ length (now rest) ⌝ }
-    ensures { λ r. ⌜ r ≡ kindStep (now (rest .entry)) (kindIn kinds (now (rest .entry))) ⌝ }
-{
-    match kind_in(rest) {
-        Named::Kind(kind) => sized_step(rest, kind),
-        Named::Unknown => Step::Fault(Refusal::Kind, 0),
-    }
-}
-
-// What stands at a record's place, of which `rest` is left.
-pub fn step_of(rest: &[u8]) -> Step
+// What stands where no kind's head does.
+fn headless_step(rest: &[u8]) -> Step
+    requires { ⌜ Headless (now rest) ⌝ }
     ensures { λ r. ⌜ r ≡ stepOf (now (rest .entry)) ⌝ }
 {
     let left = rest.len();
@@ -162,5 +141,25 @@ pub fn step_of(rest: &[u8]) -> Step
     if left < 4 {
         return Step::Fault(Refusal::Cut, 0);
     }
-    kind_step(rest)
+    match kind_in(rest) {
+        // With the length of its kind it would have the head.
+        Named::Kind(_) => Step::Fault(Refusal::Length, 0),
+        Named::Unknown => Step::Fault(Refusal::Kind, 0),
+    }
+}
+
+// What stands at a record's place, of which `rest` is left. A kind's head passes the tests of length and kind at once.
+pub fn step_of(rest: &[u8]) -> Step
+    ensures { λ r. ⌜ r ≡ stepOf (now (rest .entry)) ⌝ }
+{
+    if rest.len() >= 4 {
+        let head = word_at(rest, 0);
+        if head == head_word(Kind::Cubic) {
+            return record_step(rest, Kind::Cubic);
+        }
+        if head == head_word(Kind::Quintic) {
+            return record_step(rest, Kind::Quintic);
+        }
+    }
+    headless_step(rest)
 }

@@ -13,6 +13,7 @@ ghost use Rattle.record.specs.Kinds.{rowOf, kindOf, numbersOf, formed};
 ghost use Rattle.record.specs.Records.{allWithin};
 ghost use Rattle.record.specs.Promise.{PutsAt};
 use crate::kinds::Kind;
+use crate::kinds::head_word;
 use crate::kinds::row_of;
 use crate::numbers::bits;
 use crate::numbers::put_word;
@@ -72,12 +73,7 @@ fn put_head(bytes: &mut [u8], kind: Kind)
     requires { ⌜ length (now bytes) ≡ rowOf kind .size ⌝ }
     ensures { λ _. ⌜ now (bytes .exit) ≡ written (now (bytes .entry)) 0 (formed kind []) ⌝ }
 {
-    let row = row_of(kind);
-    let name = row.name;
-    bytes[0] = (row.size % 256) as u8;
-    bytes[1] = (row.size / 256) as u8;
-    bytes[2] = name[0];
-    bytes[3] = name[1];
+    put_word(bytes, 0, head_word(kind));
 }
 
 // Writes a record of numbers over a part of its own length.

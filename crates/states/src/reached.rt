@@ -56,17 +56,18 @@ fn is_fronted(state: State) -> bool
     let words = state.words;
     let bytes = bytes_of(&words);
     let front = &bytes[..held];
-    let own = front_words(front);
-    if !are_same(&words, &own) {
-        return false;
-    }
     if state.erased > left {
         return false;
     }
     if least(LONGEST_RECORD, state.erased) != erased_bytes(front) {
         return false;
     }
-    walk(front, 0).end == 0
+    if walk(front, 0).end != 0 {
+        return false;
+    }
+    // Last, since bytes that have just been written are slow to copy.
+    let own = front_words(front);
+    are_same(&words, &own)
 }
 
 // Whether the numbers of a state are those of a sheet that is not too long.

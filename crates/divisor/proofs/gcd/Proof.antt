@@ -1,7 +1,7 @@
 -- `divisor::gcd` meets its contract. The invariant: x and y have the common divisors of a and b, and stay as small. The norm of y falls.
 use mathlib.Core.Path.{_≡_, sym, ap, _∙_, subst}
 use mathlib.Core.Logic.{_≢_, _↔_, Iff·rfl, Iff·symm, Iff·trans}
-use Prim.Native.Nat.{_^_}
+use Prim.Native.Nat.{_^_, _<_}
 use borrow.Author.Needs.{needs}
 use lib.Dec.{lit≤}
 use lib.IntN.{natAbs}
@@ -13,10 +13,10 @@ use Rattle.whole.specs.Number.{Tells}
 use Rattle.whole.proofs.Divisor.{divides-none, common-two, greatest-is, division-common}
 use Rattle.whole.proofs.Machine.{same-bits}
 use Rattle.pair.specs.declared.Pair.{Pair}
-use Rattle.pair.specs.Pairs.{pairs, norm, PartsWithin}
+use Rattle.pair.specs.Pairs.{pairs, plus, times, norm, PartsWithin}
 use Rattle.pair.proofs.Parts.{wider}
 use Rattle.pair.proofs.Laws.{pairs-ring, norm-zero}
-use Rattle.divisor.proofs.Division.{rest-sum, rest-within, rest-less}
+use Rattle.divisor.proofs.Division.{back-sum}
 use Rattle.divisor.proofs.gcd.Statement.{statement}
 use Rattle.divisor.proofs.gcd.Tie as tie
 
@@ -55,12 +55,15 @@ rest-requires : tie.Need-rest-requires Inv-loop μ-loop
 rest-requires c κs = let l = c .before .before .loop in (l .inv .0, l .inv .1, some c)
 
 loop-less : tie.Need-loop-less Inv-loop μ-loop
-loop-less c = rest-less (some (c .before)) (c .rest .ensures)
+loop-less c = let h = c .rest .ensures in subst (λ r. natAbs (norm r) < natAbs (norm (c .before .before .before .loop .y))) (h .is) (h .near .less)
 
 loop-again : tie.Need-loop-again Inv-loop μ-loop
 loop-again c =
     let i = c .before .before .before .loop .inv in
-    (i .1, rest-within (i .1) (some (c .before)) (c .rest .ensures), λ d. Iff·trans (division-common pairs-ring {q = c .rest .ensures .quotient} (rest-sum (c .rest .ensures)) d) (i .2 d))
+    let l = c .before .before .before .loop in
+    let h = c .rest .ensures in
+    let t = times (h .quotient) (l .y) in
+    (i .1, subst (PartsWithin (2 ^ 20)) (h .is) (h .near .rest-small), λ d. Iff·trans (division-common pairs-ring {q = h .quotient} (ap (plus t) (sym (h .is)) ∙ back-sum (l .x) t) d) (i .2 d))
 
 returns-2 : tie.Need-returns-2 Inv-loop μ-loop
 returns-2 c =

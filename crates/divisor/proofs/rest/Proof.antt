@@ -5,15 +5,14 @@ use borrow.Author.Needs.{needs}
 use lib.Dec.{lit≤}
 use Rattle.pair.specs.Pairs.{minus, PartsWithin}
 use Rattle.pair.proofs.Parts.{wider, times-within}
-use Rattle.divisor.proofs.Division.{nearest-within}
 use Rattle.divisor.proofs.rest.Statement.{statement}
 use Rattle.divisor.proofs.rest.Tie as tie
 
-nearest-requires : tie.Need-nearest-requires
-nearest-requires c κs = search needs
+near-requires : tie.Need-near-requires
+near-requires c κs = search needs
 
-small : (c : tie.After-nearest) → PartsWithin (2 ^ 20) (c .nearest .result)
-small c = let h = c .before .pre in nearest-within (h .0) (h .2) (c .nearest .ensures)
+small : (c : tie.After-near) → PartsWithin (2 ^ 20) (c .near .result)
+small c = c .near .ensures .small
 
 product-requires : tie.Need-product-requires
 product-requires c κs = (wider (lit≤ tt) (small c), wider (lit≤ tt) (c .before .pre .1))
@@ -25,10 +24,10 @@ returns : tie.Need-returns
 returns c =
     let s = c .before .before .before .args in
     record {
-      quotient = c .before .before .nearest .result;
-      nearest = c .before .before .nearest .ensures;
+      quotient = c .before .before .near .result;
+      near = c .before .before .near .ensures;
       is = sym (c .difference .ensures ∙ ap (minus (s .a)) (c .before .product .ensures));
     }
 
 pub rest-spec : {M : Type 1} → statement M
-rest-spec = tie.close (tie.spec nearest-requires product-requires difference-requires returns)
+rest-spec = tie.close (tie.spec near-requires product-requires difference-requires returns)

@@ -1,4 +1,4 @@
--- `walks::point_at` meets its contract.
+-- `points::point_at` meets its contract.
 use borrow.Author.Needs.{needs}
 use mathlib.Core.Path.{ap, _∙_}
 use Rattle.record.specs.Numbers.{signedOf}

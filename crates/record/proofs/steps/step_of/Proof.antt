@@ -1,79 +1,62 @@
--- `steps::step_of` meets its contract: its tests are those of the definition, in the same order.
+-- `steps::step_of` meets its contract: it is that of the function it goes by, and a head is a kind's or no kind's.
 use borrow.Author.Needs.{needs}
-use borrow.Author.Tests.{eq-eqb, ne-eqb, lt-ltb, le-ltb}
-use mathlib.Core.Path.{sym, _∙_}
-use Rattle.refusal.specs.Answers.{if_then_else_}
-use Rattle.record.specs.Records.{stepOf}
+use mathlib.Core.Path.{_≡_, sym, _∙_}
+use mathlib.Core.Logic.{⊎-elim}
+use mathlib.Core.List.{List}
+use Prim.Native.Nat.{ℕ}
+use native.Mathlib.Omega.{arith}
+use Rattle.record.specs.declared.kinds.Kind.the-variants.{Cubic, Quintic}
+use Rattle.record.specs.Numbers.{wordAt}
+use Rattle.record.specs.Steps.{headWord, Headless}
 use Rattle.record.proofs.steps.step_of.Statement.{statement}
 use Rattle.record.proofs.steps.step_of.Tie as tie
 
-returns : tie.Need-returns
-unfolding stepOf if_then_else_
-returns c = rw (eq-eqb _ _ (c .if1 .taken))
+word-at-requires : tie.Need-word-at-requires
+word-at-requires c κs = search needs
 
-shared-slice-read-if3 : tie.Need-shared-slice-read-if3
-shared-slice-read-if3 c = search needs
+head-word-requires : tie.Need-head-word-requires
+head-word-requires c κs = search needs
+
+record-step-requires : tie.Need-record-step-requires
+record-step-requires c κs = search needs
+
+returns : tie.Need-returns
+returns c = search needs
+
+head-word-requires-2 : tie.Need-head-word-requires-2
+head-word-requires-2 c κs = search needs
+
+record-step-requires-2 : tie.Need-record-step-requires-2
+record-step-requires-2 c κs = search needs
 
 returns-2 : tie.Need-returns-2
-unfolding stepOf if_then_else_
-returns-2 c = rw (ne-eqb _ _ (c .before .before .before .if1 .left), eq-eqb _ _ (c .before .before .if2 .taken), eq-eqb _ _ (c .if3 .taken))
+returns-2 c = search needs
+
+-- the table, kind by kind
+neither : {s : List ℕ} → (wordAt s 0 ≡ headWord Cubic → ⊥) → (wordAt s 0 ≡ headWord Quintic → ⊥) → Headless s
+neither f g Cubic h = f (h .head)
+neither f g Quintic h = g (h .head)
+
+headless-step-requires : tie.Need-headless-step-requires
+headless-step-requires c κs =
+    ⊎-elim
+    (λ w. neither (λ e. w .3 .left (w .1 .ensures .0 ∙ e ∙ sym (w .2 .ensures))) (λ e. w .5 .left (w .1 .ensures .0 ∙ e ∙ sym (w .4 .ensures))))
+    (λ w k h. omega (arith, w .left, h .long))
+    (c .if1 .came)
 
 returns-3 : tie.Need-returns-3
-unfolding stepOf if_then_else_
-returns-3 c = rw (ne-eqb _ _ (c .before .before .before .if1 .left), eq-eqb _ _ (c .before .before .if2 .taken), ne-eqb _ _ (c .if3 .left))
-
-half-at-requires : tie.Need-half-at-requires
-half-at-requires c κs = search needs
-
-erased-step-requires : tie.Need-erased-step-requires
-erased-step-requires c κs = search needs
-
-returns-4 : tie.Need-returns-4
-unfolding stepOf if_then_else_
-returns-4 c =
-    rw (
-      ne-eqb _ _ (c .before .before .before .before .if1 .left),
-      ne-eqb _ _ (c .before .before .before .if2 .left),
-      eq-eqb _ _ (sym (c .before .before .half-at .ensures) ∙ c .before .if4 .taken),
-    )
-    (c .erased-step .ensures)
-
-returns-5 : tie.Need-returns-5
-unfolding stepOf if_then_else_
-returns-5 c =
-    rw (
-      ne-eqb _ _ (c .before .before .before .before .if1 .left),
-      ne-eqb _ _ (c .before .before .before .if2 .left),
-      ne-eqb _ _ (λ e. c .before .if4 .left (c .before .before .half-at .ensures ∙ e)),
-      lt-ltb _ _ (c .if5 .taken),
-    )
-
-kind-step-requires : tie.Need-kind-step-requires
-kind-step-requires c κs = search needs
-
-returns-6 : tie.Need-returns-6
-unfolding stepOf if_then_else_
-returns-6 c =
-    let e = c .before in
-    rw (
-      ne-eqb _ _ (e .before .before .before .before .if1 .left),
-      ne-eqb _ _ (e .before .before .before .if2 .left),
-      ne-eqb _ _ (λ z. e .before .if4 .left (e .before .before .half-at .ensures ∙ z)),
-      le-ltb _ _ (e .if5 .left),
-    )
-    (c .kind-step .ensures)
+returns-3 c = search needs
 
 pub step-of-spec : {M : Type 1} → statement M
 step-of-spec =
     tie.close
     (tie.spec
+    word-at-requires
+    head-word-requires
+    record-step-requires
     returns
-    shared-slice-read-if3
+    head-word-requires-2
+    record-step-requires-2
     returns-2
-    returns-3
-    half-at-requires
-    erased-step-requires
-    returns-4
-    returns-5
-    kind-step-requires
-    returns-6)
+    headless-step-requires
+    returns-3)

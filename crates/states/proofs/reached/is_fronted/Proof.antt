@@ -4,17 +4,16 @@ use mathlib.Core.Path.{_≡_, sym, ap, _∙_}
 use mathlib.Core.List.{List}
 use Prim.Native.Nat.{ℕ, _≤_}
 use native.Mathlib.Omega.{arith}
-use lib.Dec.{eqb}
 use lib.ListN.{length, take}
 use lib.Seq.{take-all, length-take-le}
-use Rattle.whole.proofs.Flags.{untold, told, told-map, equal-tells}
+use Rattle.whole.proofs.Flags.{told-map}
 use Rattle.record.specs.Kinds.{longestRecord}
 use Rattle.record.specs.Records.{erasedBytes}
 use Rattle.sheet.specs.Survey.{survey}
 use Rattle.states.specs.declared.State.{State}
 use Rattle.states.specs.Words.{packed}
 use Rattle.states.specs.Steps.{heldIn, frontIn}
-use Rattle.states.proofs.Packed.{unpacked-long}
+use Rattle.states.proofs.Packed.{packed-long, unpacked-long}
 use Rattle.states.proofs.Fronts.{held-long}
 use Rattle.states.proofs.reached.is_fronted.Statement.{statement}
 use Rattle.states.proofs.reached.is_fronted.Tie as tie
@@ -63,26 +62,8 @@ module _ (c : tie.After-bytes) where
 slice-aggregate-front : tie.Need-slice-aggregate-front
 slice-aggregate-front c = sym (length-take-le (held c) (c .before .bytes-of .result) (omega (arith, held-is c, bytes-long c)))
 
-front-words-requires : tie.Need-front-words-requires
-front-words-requires c κs = search needs
-
-are-same-requires : tie.Need-are-same-requires
-are-same-requires c κs = search needs
-
--- the words of the front
-own-is : (c : tie.After-front-words) → c .front-words .result ≡ packed (frontIn (state (c .before)))
-own-is c =
-    c .front-words .ensures
-    ∙ ap (λ (x : List ℕ). packed (take longestRecord x)) (front-is (c .before))
-    ∙ ap packed (take-all longestRecord (frontIn (state (c .before))) (front-short (c .before)))
-
 returns : tie.Need-returns
-returns c =
-    let w = c .before .before .before .before in
-    λ f. untold (c .before .are-same .result) (c .before .are-same .ensures) (c .if1 .taken) (f .words-are ∙ sym (own-is w))
-
-returns-2 : tie.Need-returns-2
-returns-2 c = search needs
+returns c = search needs
 
 least-requires-2 : tie.Need-least-requires-2
 least-requires-2 c κs = search needs
@@ -91,35 +72,55 @@ erased-bytes-requires : tie.Need-erased-bytes-requires
 erased-bytes-requires c κs = search needs
 
 -- how many bytes FF come first
-erased-is : (c : tie.After-erased-bytes) → let w = c .before .before .before .before .before .before .before .before .before in c .erased-bytes .result ≡ erasedBytes (frontIn (state w))
-erased-is c = c .erased-bytes .ensures ∙ ap erasedBytes (front-is (c .before .before .before .before .before .before .before .before .before))
+erased-is : (c : tie.After-erased-bytes) → c .erased-bytes .result ≡ erasedBytes (frontIn (state (c .before .before .before .before)))
+erased-is c = c .erased-bytes .ensures ∙ ap erasedBytes (front-is (c .before .before .before .before))
 
-returns-3 : tie.Need-returns-3
-returns-3 c =
+returns-2 : tie.Need-returns-2
+returns-2 c =
     let e = c .before in
-    λ f. c .if3 .taken (e .before .least2 .ensures ∙ f .erased-is ∙ sym (erased-is e))
+    λ f. c .if2 .taken (e .before .least2 .ensures ∙ f .erased-is ∙ sym (erased-is e))
 
 walk-requires : tie.Need-walk-requires
 walk-requires c κs = search needs
 
+-- where the records of the front end
+end-is : (c : tie.After-walk) → c .walk .result .end ≡ survey (frontIn (state (c .before .before .before .before .before .before))) .end
+end-is c = c .walk .ensures .end-is ∙ ap (λ (x : List ℕ). survey x .end) (front-is (c .before .before .before .before .before .before))
+
+returns-3 : tie.Need-returns-3
+returns-3 c = λ f. c .if3 .taken (end-is (c .before .before) ∙ f .no-record)
+
+front-words-requires : tie.Need-front-words-requires
+front-words-requires c κs = search needs
+
+-- the words of the front
+own-is : (c : tie.After-front-words) → let w = c .before .before .before in c .front-words .result ≡ packed (frontIn (state (w .before .before .before .before .before .before)))
+own-is c =
+    let front = c .before .before .before .before .before .before .before .before .before in
+    c .front-words .ensures
+    ∙ ap (λ (x : List ℕ). packed (take longestRecord x)) (front-is front)
+    ∙ ap packed (take-all longestRecord (frontIn (state front)) (front-short front))
+
+are-same-requires : tie.Need-are-same-requires
+are-same-requires c κs =
+    let own = c .before .before in
+    let front = own .before .before .before .before .before .before .before .before .before in
+    (seven front, ap length (own-is own) ∙ packed-long (frontIn (state front)))
+
 returns-4 : tie.Need-returns-4
 returns-4 c =
-    let w = c .before in
+    let own = c .before .before .before in
+    let w = own .before .before .before in
     let e = w .before .before in
-    let same = e .before .before .before .before .before in
-    let words = same .before .before .before in
-    let end-is : w .walk .result .end ≡ survey (frontIn (state (words .before))) .end =
-    w .walk .ensures .end-is ∙ ap (λ (x : List ℕ). survey x .end) (front-is (words .before))
-    in
     told-map
     (λ z. record {
-      words-are = told (same .are-same .result) (same .are-same .ensures) (e .before .before .before .before .if1 .left) ∙ own-is words;
-      erased-inside = omega (arith, e .before .before .if2 .left);
-      erased-is = sym (e .before .least2 .ensures) ∙ w .before .if3 .left ∙ erased-is e;
-      no-record = sym end-is ∙ z;
+      words-are = z ∙ own-is own;
+      erased-inside = omega (arith, e .before .before .if1 .left);
+      erased-is = sym (e .before .least2 .ensures) ∙ w .before .if2 .left ∙ erased-is e;
+      no-record = sym (end-is w) ∙ own .before .if3 .left;
     })
-    (λ f. end-is ∙ f .no-record)
-    (eqb (w .walk .result .end) 0) (equal-tells (w .walk .result .end) 0)
+    (λ f. f .words-are ∙ sym (own-is own))
+    (c .are-same .result) (c .are-same .ensures)
 
 pub is-fronted-spec : {M : Type 1} → statement M
 is-fronted-spec =
@@ -131,12 +132,12 @@ is-fronted-spec =
     bytes-of-requires
     array-share-prefix-bytes
     slice-aggregate-front
-    front-words-requires
-    are-same-requires
     returns
-    returns-2
     least-requires-2
     erased-bytes-requires
-    returns-3
+    returns-2
     walk-requires
+    returns-3
+    front-words-requires
+    are-same-requires
     returns-4)
