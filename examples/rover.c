@@ -1,12 +1,11 @@
 /* What a rover asks before it drives: how long is a curve of a sheet, and what is its offset at a distance?
  *
- *     gcc -std=c99 -O2 -Iinclude -o target/rover examples/rover.c target/staticlib/libyard.a -lm
+ *     gcc examples/rover.c $(pkg-config --cflags --libs yard) -o target/rover
  *     target/rover samples/mission.sheet 3 100
  *
- * `rt staticlib yard` makes the library. Status 0 is an answer, 1 a refusal, 2 a mistake in the words or the file. */
+ * `./yard install` makes the library. Status 0 is an answer, 1 a refusal, 2 a mistake in the words or the file. */
 #include <errno.h>
 #include <inttypes.h>
-#include <math.h>
 #include <stdio.h>
 #include <stdlib.h>
 #include <string.h>
@@ -77,11 +76,20 @@ static void print_curve(const int64_t *p, size_t n) {
     printf("\n");
 }
 
+/* sqrt(c) A / B cut down to whole thousandths. Five legs within the range are shorter than 282,843, and B is at most
+ * 12, so that what is under the root stays below 2^64. */
+static int64_t thousandths(int64_t c, int64_t a, int64_t b) {
+    int64_t out[YARD_ROOT_NUMBERS];
+    yard_root((uint64_t)c * (uint64_t)a * (uint64_t)a * 1000000, out, YARD_ROOT_NUMBERS);
+    return out[0] / b;
+}
+
 static void print_length(const int64_t *p, size_t n) {
     int64_t out[YARD_LENGTH_NUMBERS];
     answered("length", yard_length(p, n, out, YARD_LENGTH_NUMBERS));
-    double about = sqrt((double)out[0]) * (double)out[1] / (double)out[2];
-    printf("length: sqrt(%" PRId64 ") * %" PRId64 " / %" PRId64 ", about %.3f\n", out[0], out[1], out[2], about);
+    int64_t about = thousandths(out[0], out[1], out[2]);
+    printf("length: sqrt(%" PRId64 ") * %" PRId64 " / %" PRId64 ", about %" PRId64 ".%03" PRId64 "\n", out[0], out[1],
+           out[2], about / 1000, about % 1000);
 }
 
 /* Control points with their weights. A point whose weight is zero lies nowhere. */

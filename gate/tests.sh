@@ -3,7 +3,8 @@
 # What is cheap comes first: the layout, and that the documents' table is that of the wrong programs.
 hold_layout() {
     rt fmt --check
-    ! cargo fmt --version >/dev/null 2>&1 || cargo fmt --check --manifest-path reference/Cargo.toml
+    ! cargo fmt --version >/dev/null 2>&1 ||
+        { cargo fmt --check --manifest-path reference/Cargo.toml && rustfmt --check --edition 2021 examples/cable.rs; }
     sed -n '/^| what | wrong programs |$/,/^$/p' docs/GATE.md | sed '/^$/d' >"$room/documented"
     wrong_table | diff "$room/documented" -
     enough_wrong_programs
@@ -17,6 +18,31 @@ hold_theorems() {
         grep -Eq "^ *((abbrev )?pub )?$name( |$)" "crates/${file%/*}/proofs/${file#*/}.antt" ||
             { echo "yard: docs/THEOREMS.md: there is no theorem $name in $file" >&2 && return 1; }
     done <"$room/named"
+}
+
+# A line for each call that the header declares: what it returns, its name, and the types of its parameters.
+declared_calls() {
+    awk '!/^static / && /^[a-z].* [*]*yard_[a-z_0-9]*\(/ { text = ""; open = 1 }
+        open { text = text $0 }
+        open && /;$/ { print text; open = 0 }' include/yard.h |
+        sed 's/ *[a-z_0-9]*,/,/g; s/ *[a-z_0-9]*);$/)/; s/  */ /g; s/( /(/' | sort
+}
+
+# The same of each function that the library exports, as C sees it: a slice is a pointer and a count.
+exported_calls() {
+    awk '/^#\[no_mangle\]$/ { text = ""; open = 1; next }
+        open { text = text $0 }
+        open && / -> [a-z0-9]+$/ { print text; open = 0 }' crates/yard/src/lib.rt |
+        sed 's/^pub extern "C" fn \(.*\) -> \(.*\)/\2 \1/; s/,)$/)/; s/[a-z_0-9]*: //g
+            s/&\[\([a-z0-9]*\)\]/const \1 *, size_t/g; s/&mut \[\([a-z0-9]*\)\]/\1 *, size_t/g
+            s/i64/int64_t/g; s/u64/uint64_t/g; s/u8/uint8_t/g; s/usize/size_t/g; s/  */ /g; s/( /(/' | sort
+}
+
+hold_prototypes() {
+    declared_calls >"$room/declared"
+    exported_calls >"$room/exported"
+    [ -s "$room/exported" ]
+    diff "$room/declared" "$room/exported" || { echo "yard: include/yard.h (<) declares other calls than crates/yard exports (>)" >&2 && return 1; }
 }
 
 # The expected answers are those of the second program, which its own tests hold to the document.
@@ -37,16 +63,6 @@ gate() {
     { status=0 && rt ci || status=$?; echo "$status" >"$room/status"; } 2>&1 | tee "$room/gate"
     read -r status <"$room/status"
     return "$status"
-}
-
-# The example in C: each command of the expected text, and what it says.
-hold_example() {
-    build_c examples/rover.c
-    sed -n 's/^\$ rover //p' examples/rover.txt | while read -r words; do
-        echo "\$ rover $words"
-        ${emulator:+"$emulator"} "$room/rover" $words || echo "status $?"
-    done >"$room/answer"
-    diff examples/rover.txt "$room/answer"
 }
 
 # Each sample's text and status, by the program that was proved. Among them are an empty sheet, one of 4,096 bytes and one of 4,097.
@@ -159,9 +175,75 @@ hold_questions() {
     diff examples/ask.txt "$room/answer"
 }
 
+# What an archive is for, which functions it has, what it needs from elsewhere, and what in it is written to, a line each.
+contents() { # ARCHIVE
+    readelf -h "$1" | sed -n 's/^ *Machine: */is for /p'
+    readelf -sW "$1" | awk '$5 == "GLOBAL" || $5 == "WEAK" { print (/ UND / ? "needs" : "has"), $NF }' | sort
+    readelf -SW "$1" | sed -n 's/^ *\[ *[0-9]*\] *//p' | awk '$5 !~ /^0*$/ && $7 ~ /W/ { print "writes", $1 }'
+}
+
+# Such an archive holds the calls of the header alone and no state, and needs so much of a C library.
+hold_archive() { # ARCHIVE PROCESSOR NEEDED...
+    contents "$1" >"$room/contents"
+    {
+        echo "is for $2"
+        declared_calls | sed 's/.*\(yard_[a-z_0-9]*\)(.*/has \1/' | sort
+        shift 2
+        printf 'needs %s\n' "$@"
+    } | diff - "$room/contents"
+}
+
+# The library for each target.
+hold_archives() {
+    for target in $targets; do
+        case $target in
+        x86_64-*) processor="Advanced Micro Devices X86-64" ;;
+        aarch64-*) processor=AArch64 ;;
+        riscv64-*) processor=RISC-V ;;
+        esac
+        needed=memset
+        case $target in *-linux-gnu) needed="memcpy memset" ;; esac
+        make_library "$target" "$room/libyard.a"
+        hold_archive "$room/libyard.a" "$processor" $needed ||
+            { echo "yard: the library for $target is not (>) what include/yard.h says (<)" >&2 && return 1; }
+    done
+}
+
+# What pkg-config says of the installed library.
+flags() { # WORDS...
+    if command -v pkg-config >/dev/null; then
+        PKG_CONFIG_PATH=$room/installed/lib/pkgconfig pkg-config "$@" yard
+    else
+        echo "yard: pkg-config is not installed: the examples are built without it, and yard.pc is not tried" >&2
+        echo "$*" | sed "s,--cflags,-I$room/installed/include,; s,--libs,-L$room/installed/lib -lyard,"
+    fi
+}
+
+# An example: each command of its expected text, and what it says.
+hold_example() { # NAME
+    sed -n "s/^\$ $1 //p" "examples/$1.txt" | while read -r words; do
+        echo "\$ $1 $words"
+        "$room/installed/$1" $words || echo "status $?"
+    done >"$room/answer"
+    diff "examples/$1.txt" "$room/answer"
+}
+
+# The examples, by the README's commands, with an installed library whose folder was moved.
+hold_examples() {
+    install_library "$room/new" "$(own_target)"
+    mv "$room/new" "$room/installed"
+    gcc -Wall -Wextra examples/rover.c $(flags --cflags --libs) -o "$room/installed/rover"
+    g++ -Wall -Wextra examples/joins.cpp $(flags --cflags --libs) -o "$room/installed/joins"
+    rustc --edition 2021 examples/cable.rs $(flags --libs) -o "$room/installed/cable"
+    hold_example rover
+    hold_example joins
+    hold_example cable
+}
+
 all_tests() {
     hold_layout
     hold_theorems
+    hold_prototypes
     hold_to_second_program
     gate
     hold_samples
@@ -172,8 +254,9 @@ all_tests() {
     hold_long_cables
     hold_ends_of_cables
     hold_questions
-    prepare_library
-    compare_library 20000 1
-    hold_example
+    prove_library
+    hold_archives
+    compare_libraries 20000 1
+    hold_examples
     tail -n 1 "$room/gate"
 }

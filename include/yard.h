@@ -14,6 +14,11 @@
  * aligns them; an area that a call writes overlaps no other area of that call; and each area has the size that it
  * is said to have. Nothing else is asked: numbers, bytes and counts may have any value.
  *
+ * What the library needs. Of a C library it needs memset, on Linux memcpy too, and nothing else: the archives for bare
+ * boards need memset alone. A call takes at most 2,500 bytes of stack and what memset takes. No call keeps anything:
+ * the library has no data that is written to, so that calls may run at once, on threads or in an interrupt, wherever
+ * no area that one of them writes is used by another. size_t has 64 bits.
+ *
  * A curve is its points as numbers, x0, y0, x1, y1, ...: 8 numbers are a cubic, 12 a quintic, and any other count
  * is YARD_LENGTH before anything else is looked at. Coordinates go from -20,000 to 20,000. c, q, kappa and w are
  * those of D = kappa w^2 and |D|^2 = c q^2, D being the sum of the legs times their Bernstein functions, by powers
@@ -23,6 +28,10 @@
 
 #include <stddef.h>
 #include <stdint.h>
+
+#if SIZE_MAX != UINT64_MAX
+#error "libyard.a is for processors with addresses of 64 bits"
+#endif
 
 #ifdef __cplusplus
 extern "C" {
