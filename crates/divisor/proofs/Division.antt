@@ -17,7 +17,7 @@
 --   nearest-less, nearest-rest-within      so what it leaves over has a smaller norm than b, and is no larger
 --   back-sum               t + (a − t) = a
 --   root-within            the parts of a pair are at most the root of its norm
-use mathlib.Core.Path.{_≡_, refl, sym, ap, _∙_, subst}
+use mathlib.Core.Path.{_≡_, refl, sym, ap, _∙_}
 use mathlib.Core.List.{[], _∷_}
 use mathlib.Core.Logic.{_≢_, _↔_, inl, inr}
 use Prim.Native.Nat.{ℕ, zero, suc, _+_, _*_, _≤_, _<_}
@@ -25,7 +25,7 @@ use native.Mathlib.Nat.{le-refl, mul-le-mul, le-of-mul-le-mul-left, le-of-mul-le
 use native.Mathlib.Decide.{decLe}
 use native.Mathlib.Omega.{arith}
 use lib.IntN.{ℤ, pos, negℤ, natAbs, _+ℤ_, _-ℤ_, _*ℤ_, +ℤ-comm}
-use lib.Signed.{_≤ℤ_, _<ℤ_}
+use lib.Signed.{_≤ℤ_}
 use Rattle.whole.specs.Number.{Within}
 use Rattle.whole.specs.Coefficients.{Divides}
 use Rattle.whole.specs.Promise.{Nearest}

@@ -2,11 +2,10 @@
 --   greatest-zero      a greatest common divisor is 0 only where every pair is 0, and there it is
 --   greatest-within    it is no larger than the pairs are
 --   greatest-unit      two of them differ by a unit
-use mathlib.Core.Path.{_≡_, sym, ap, _∙_, subst}
+use mathlib.Core.Path.{_≡_, sym, _∙_, subst}
 use mathlib.Core.List.{List, []}
 use mathlib.Core.Logic.{_↔_, ⊎-elim}
 use Prim.Native.Nat.{ℕ}
-use lib.IntN.{pos, ℤ-discrete}
 use Rattle.whole.specs.Coefficients.{at, Divides, Greatest}
 use Rattle.poly.specs.Polynomials.{Same}
 use Rattle.whole.proofs.Divisor.{divides-self, divides-none}
@@ -17,7 +16,7 @@ use Rattle.poly.proofs.Divisibility.{unit-of-one}
 use Rattle.poly.proofs.Content.{greatest-associates}
 use Rattle.pair.specs.declared.Pair.{Pair}
 use Rattle.pair.specs.Pairs.{pairs, times, one, PartsWithin, AllWithin}
-use Rattle.pair.proofs.Parts.{pair-equal, zero-within}
+use Rattle.pair.proofs.Parts.{zero-within}
 use Rattle.pair.proofs.Laws.{times-one, pairs-ring, pairs-domain, pair-zero?}
 use Rattle.divisor.proofs.Division.{divisor-within}
 

@@ -3,7 +3,7 @@
 --   pairs-euclid          the remainder of a nearest quotient has at most half of the divisor's norm
 --   pairs-bezout          so any two pairs have a common divisor a x + b y
 -- With `pairs-ring` and `pairs-domain` (pair, Laws) these are all that the crate `poly` asks for.
-use mathlib.Core.Path.{_≡_, sym, ap}
+use mathlib.Core.Path.{_≡_, sym}
 use mathlib.Core.List.{[], _∷_}
 use mathlib.Core.Logic.{_≢_, _⊎_, inl, inr}
 use Prim.Native.Nat.{_<_}
@@ -18,7 +18,7 @@ use Rattle.poly.proofs.Divisibility.{Bezout}
 use Rattle.poly.proofs.Euclid.{Euclid, euclid-bezout}
 use Rattle.pair.specs.declared.Pair.{Pair}
 use Rattle.pair.specs.Pairs.{pair, pairs, plus, minus, times, conjugate, norm}
-use Rattle.pair.proofs.Laws.{pairs-ring, pairs-domain, norm-some, pair-zero?}
+use Rattle.pair.proofs.Laws.{pairs-ring, norm-some, pair-zero?}
 use Rattle.divisor.proofs.Division.{back-sum, nearest-less}
 
 moved : (n d q r k : ℤ) → q *ℤ d +ℤ r ≡ n → n -ℤ (q +ℤ k) *ℤ d ≡ r -ℤ k *ℤ d

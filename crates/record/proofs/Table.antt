@@ -6,11 +6,11 @@
 --   own-name         a record with a kind's name is named so
 --   headOf, head-of-row, head-formed   the head of a record, by the four bytes of its row.      head-body   what stands behind it
 use mathlib.Core.Path.{_≡_, refl, ap, _∙_, sym}
-use mathlib.Core.Bool.{true, false}
+use mathlib.Core.Bool.{true}
 use mathlib.Core.List.{List, [], _∷_, _++_, append-nil}
 use Prim.Native.Nat.{ℕ, _+_, _*_, _/_, _%_, _≤_, _<_}
 use native.Mathlib.Omega.{arith}
-use lib.ListN.{length, getD, take, drop}
+use lib.ListN.{getD, take, drop}
 use lib.Seq.{take-at}
 use borrow.Author.Tests.{eqb-true}
 use lib.Dec.{eqb}

@@ -2,14 +2,12 @@
 use mathlib.Core.Path.{_≡_, _∙_}
 use Prim.Native.Nat.{_^_, _≤_}
 use borrow.Author.Needs.{needs}
-use lib.Dec.{lit≤}
 use lib.IntN.{natAbs}
 use mir.Syntax.{w64}
 use mir.Val.{toZ, ofZ}
 use mir.ValLaws.{toZ-ofZ}
 use Rattle.whole.proofs.Linear.{linear, abs-parts, one-part}
 use Rattle.pair.specs.Pairs.{norm}
-use Rattle.pair.proofs.Parts.{wider}
 use Rattle.pair.proofs.Laws.{norm-some}
 use Rattle.divisor.proofs.Division.{over-within}
 use Rattle.divisor.proofs.Rounding.{nearest-near, rounded-near}

@@ -16,7 +16,7 @@ use Rattle.whole.proofs.Bound.{abs-plus, fits-within, read-back}
 use Rattle.whole.proofs.Machine.{nonzero-bits}
 use Rattle.whole.proofs.Division.{abs-quotient}
 use Rattle.pair.specs.declared.Pair.{Pair}
-use Rattle.pair.specs.Pairs.{pair, times, conjugate, norm, PartsWithin}
+use Rattle.pair.specs.Pairs.{times, conjugate, norm, PartsWithin}
 use Rattle.pair.proofs.Parts.{wider, conjugate-within, times-within}
 use Rattle.pair.proofs.Laws.{norm-some, norm-zero}
 use Rattle.divisor.proofs.Division.{divides-over, quotient-within, over-within}
