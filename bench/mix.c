@@ -2,6 +2,8 @@
  * with 0 to 4 triples between them; full sheets of those curves; near misses. Drawn from one seed. */
 #include "bench.h"
 
+#include <string.h>
+
 struct curve curves[CURVES];
 struct curve near_misses[CURVES];
 struct ends ends[ENDS];
@@ -197,13 +199,20 @@ static uint8_t *write_record(uint8_t *to, const struct curve *c) {
     return to;
 }
 
-/* 43 cubics and 49 quintics fill a sheet to the last byte. */
+static uint8_t *write_header(uint8_t *to, size_t mission) {
+    const uint8_t header[] = {YARD_HEADER_BYTES, 0, 'M', 'N', (uint8_t)mission, (uint8_t)(mission >> 8)};
+    memcpy(to, header, sizeof header);
+    return to + sizeof header;
+}
+
+/* The header, 37 cubics and 53 quintics leave two bytes of a sheet, which stay erased; no curves leave fewer. */
 static void draw_sheets(void) {
     size_t next = 0;
     for (size_t k = 0; k < SHEETS; k++) {
-        int left[] = {43, 49};
-        uint8_t *to = sheets[k];
-        while (to < sheets[k] + YARD_SHEET_BYTES) {
+        int left[] = {37, 53};
+        memset(sheets[k], 0xFF, YARD_SHEET_BYTES);
+        uint8_t *to = write_header(sheets[k], k);
+        while (to < sheets[k] + YARD_SHEET_BYTES - 2) {
             const struct curve *c = &curves[next++ % CURVES];
             if (left[c->count == YARD_QUINTIC_NUMBERS]-- > 0)
                 to = write_record(to, c);

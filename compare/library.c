@@ -96,9 +96,9 @@ static int64_t answer(int64_t function, const int64_t x[6], struct area areas[4]
     case 7:
         return yard_check(s, len);
     case 8:
-        return yard_read(s, len, (uint64_t)x[0], out, room);
+        return yard_read(s, len, (uint16_t)x[0], (uint64_t)x[1], out, room);
     case 9:
-        return yard_find(s, len, (uint64_t)x[0], out, room);
+        return yard_find(s, len, (uint16_t)x[0], (uint64_t)x[1], out, room);
     case 10:
         return yard_erase(s, len);
     case 11:
@@ -107,6 +107,8 @@ static int64_t answer(int64_t function, const int64_t x[6], struct area areas[4]
         return yard_report(s, len, text, text_room);
     case 13:
         return yard_root((uint64_t)x[0], out, room);
+    case 18:
+        return yard_start(s, len, (uint16_t)x[0]);
     }
     return answer_parts(function, s, len, out, room);
 }

@@ -10,7 +10,7 @@ use std::io::{self, Read};
 use std::process::ExitCode;
 
 /// YARD_PARTS_NUMBERS of yard.h, which declares these calls for C.
-const NUMBERS: usize = 12;
+const NUMBERS: usize = 13;
 
 extern "C" {
     fn yard_parts_start(state: *mut i64, room: usize) -> i64;

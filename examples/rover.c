@@ -1,9 +1,11 @@
-/* What a rover asks before it drives: how long is a curve of a sheet, and what is its offset at a distance?
+/* What a rover asks before it drives: is the sheet that of its own mission, how long is a curve of it, and what is the
+ * curve's offset at a distance?
  *
  *     gcc examples/rover.c $(pkg-config --cflags --libs yard) -o target/rover
- *     target/rover samples/mission.sheet 3 100
+ *     target/rover samples/mission.sheet 7 3 100
  *
- * `./yard install` makes the library. Status 0 is an answer, 1 a refusal, 2 a mistake in the words or the file. */
+ * The words are a sheet's file, the number of the rover's mission, that of a curve, and a distance. `./yard install`
+ * makes the library. Status 0 is an answer, 1 a refusal, 2 a mistake in the words or the file. */
 #include <errno.h>
 #include <inttypes.h>
 #include <stdio.h>
@@ -18,7 +20,7 @@ static const char *const meaning[][2] = {
     {"TOO LONG", "the sheet has more than 4,096 bytes"},
     {"CUT", "the sheet ends in the middle of a record"},
     {"LEFTOVER", "a byte behind the erased part is not FF"},
-    {"KIND", "a record is neither a cubic nor a quintic"},
+    {"KIND", "the sheet does not begin with its mission, or a later record is no curve"},
     {"LENGTH", "a record's length is not the one of its kind"},
     {"RANGE", "a coordinate or the distance is beyond 20,000"},
     {"NUMBER", "the sheet has no curve of that number"},
@@ -29,6 +31,12 @@ static const char *const meaning[][2] = {
     {"ROOM", "the lent area is too short"},
     {"THIRDS", "the middle leg is not whole"},
     {"DEAD END", "the first or the last leg is zero"},
+    {"NO MISSION", "the sheet is erased, and not yet started for a mission"},
+    {"OTHER MISSION", "the sheet is sound, but it is another mission's"},
+    {"", ""}, /* 17 and 18 are nobody's yet */
+    {"", ""},
+    {"ENDED", "the sheet that comes in parts has ended"},
+    {"FULL", "the box has 1,000 sheets already"},
 };
 
 /* Goes on with an answer, and ends with what a refusal means. */
@@ -55,6 +63,13 @@ static int64_t whole_number(const char *word) {
     if (errno != 0 || end == word || *end != '\0')
         mistake(word, "not a whole number, or too far from 0");
     return number;
+}
+
+static uint16_t mission_number(const char *word) {
+    int64_t number = whole_number(word);
+    if (number < 0 || number > UINT16_MAX)
+        mistake(word, "not a mission, which is a number from 0 to 65535");
+    return (uint16_t)number;
 }
 
 /* A sheet that is too long shows by one byte too many. */
@@ -106,15 +121,16 @@ static void print_offset(const int64_t *p, size_t n, int64_t h) {
 }
 
 int main(int count, char **words) {
-    if (count != 4)
-        mistake("words", "a sheet's file, a curve's number and a distance");
+    if (count != 5)
+        mistake("words", "a sheet's file, the mission's number, a curve's number and a distance");
     uint8_t sheet[YARD_SHEET_BYTES + 1];
     int64_t p[YARD_QUINTIC_NUMBERS];
     size_t len = read_sheet(words[1], sheet);
-    int64_t number = whole_number(words[2]);
-    int64_t h = whole_number(words[3]);
+    uint16_t mission = mission_number(words[2]);
+    int64_t number = whole_number(words[3]);
+    int64_t h = whole_number(words[4]);
     answered("sheet", yard_check(sheet, len));
-    size_t n = (size_t)answered("curve", yard_read(sheet, len, (uint64_t)number, p, YARD_QUINTIC_NUMBERS));
+    size_t n = (size_t)answered("curve", yard_read(sheet, len, mission, (uint64_t)number, p, YARD_QUINTIC_NUMBERS));
     print_curve(p, n);
     print_length(p, n);
     print_offset(p, n, h);

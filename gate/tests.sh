@@ -35,7 +35,7 @@ exported_calls() {
         open && / -> [a-z0-9]+$/ { print text; open = 0 }' crates/yard/src/lib.rt |
         sed 's/^pub extern "C" fn \(.*\) -> \(.*\)/\2 \1/; s/,)$/)/; s/[a-z_0-9]*: //g
             s/&\[\([a-z0-9]*\)\]/const \1 *, size_t/g; s/&mut \[\([a-z0-9]*\)\]/\1 *, size_t/g
-            s/i64/int64_t/g; s/u64/uint64_t/g; s/u8/uint8_t/g; s/usize/size_t/g; s/  */ /g; s/( /(/' | sort
+            s/i64/int64_t/g; s/u64/uint64_t/g; s/u16/uint16_t/g; s/u8/uint8_t/g; s/usize/size_t/g; s/  */ /g; s/( /(/' | sort
 }
 
 hold_prototypes() {
@@ -131,11 +131,12 @@ hold_samples_by_cable() {
 
 # As many bytes as a sheet has, and more; a fault that more bytes follow; and a cable that goes on.
 hold_long_cables() {
-    erased 4096 | hold_check "sheet 0"
+    erased 4096 | hold_check "mission none sheet 0"
     erased 4097 | hold_check "refused 1 at 0"
     erased 100000 | hold_check "refused 1 at 0"
-    { cat samples/leftover.sheet && erased 4044; } | hold_check "refused 3 at 46"
-    { cat samples/leftover.sheet && sleep 0.2 && erased 4045; } | hold_check "refused 1 at 0"
+    { cat samples/leftover.sheet && erased 4038; } | hold_check "refused 3 at 52"
+    { cat samples/leftover.sheet && sleep 0.2 && erased 4039; } | hold_check "refused 1 at 0"
+    { head -c 6 samples/minus_one.sheet && sleep 0.2 && erased 4090; } | hold_check "mission 65535 sheet 0"
     yes | hold_check "refused 1 at 0"
 }
 
@@ -149,6 +150,63 @@ hold_ends_of_cables() {
     check <samples >"$room/answer" 2>"$room/said" || status=$?
     [ "$status" -eq 2 ] && [ ! -s "$room/answer" ] && grep -q '^standard input: ' "$room/said" ||
         { echo "yard: the check of an input that cannot be read: status $status" >&2 && exit 1; }
+}
+
+# What ./yard make says of a text, with its status. A sheet that stood there stays where none is made.
+try_text() { # TEXT
+    echo before >"$room/made"
+    status=0
+    make "$1" "$room/made" 2>&1 || status=$?
+    echo "status $status"
+    [ "$status" -eq 0 ] || echo before | diff - "$room/made"
+}
+
+# What is said of the text in its room must be these lines.
+hold_said() { # LINES...
+    try_text "$room/lines" >"$room/answer"
+    printf '%s\n' "$@" | diff - "$room/answer"
+}
+
+# A text that makes this sheet.
+hold_made() { # TEXT SHEET
+    try_text "$1" | diff - "$room/sound" && cmp "$2" "$room/made" || { echo "yard: $1 does not make $2" >&2 && exit 1; }
+}
+
+# Each sample but those of sheets that the library does not make, and each text of the expected ones, with its message.
+hold_texts() {
+    echo "status 0" >"$room/sound"
+    for text in samples/*.txt; do
+        case $text in */headerless.txt | */leftover.txt | */second_header.txt | */too_long.txt) continue ;; esac
+        hold_made "$text" "${text%.txt}.sheet"
+    done
+    sed -n "s/^\$ printf '\(.*\)' >TEXT; .\/yard make TEXT SHEET$/\1/p" examples/make.txt | while read -r lines; do
+        printf '%s\n' "\$ printf '$lines' >TEXT; ./yard make TEXT SHEET"
+        printf "$lines" >"$room/lines"
+        try_text "$room/lines"
+    done >"$room/answer"
+    diff examples/make.txt "$room/answer"
+}
+
+# The fullest sheet that there is, by the second program too; one erased byte and one curve too many; a text that is too long, and one that is not there.
+hold_full_texts() {
+    { echo mission 65535 && yes 'C3 (-20000,20000) (1,2) (3,4) (5,6)' | head -n 113; } >"$room/full"
+    { cat "$room/full" && echo erased 22; } >"$room/lines"
+    "$second" sheet "$room/lines" "$room/expected"
+    hold_made "$room/lines" "$room/expected"
+    { cat "$room/full" && echo erased 23; } >"$room/lines"
+    hold_said "line 115: refused 1 TOO LONG" "status 1"
+    { cat "$room/full" && echo 'C3 (0,0) (0,0) (0,0) (0,0)'; } >"$room/lines"
+    hold_said "line 115: refused 12 ROOM" "status 1"
+    yes | head -c 65536 >"$room/lines"
+    hold_said "error: the text has more than 65,535 bytes" "status 2"
+    rm "$room/made"
+    ! make samples/headerless.txt "$room/made" 2>/dev/null && ! make "$room/none" "$room/made" 2>/dev/null && [ ! -e "$room/made" ] ||
+        { echo "yard: a sheet is left behind where none was made" >&2 && exit 1; }
+}
+
+hold_make() {
+    hold_texts
+    hold_full_texts
 }
 
 # Boxes made by chance: the text and the status are those of the second program.
@@ -253,6 +311,7 @@ all_tests() {
     hold_samples_by_cable
     hold_long_cables
     hold_ends_of_cables
+    hold_make
     hold_questions
     prove_library
     hold_archives

@@ -32,6 +32,7 @@ calls_of_users() {
     echo 2 report::main
     echo 2 box_report::main
     echo 2 cable::main
+    echo 2 make_sheet::main
 }
 
 enough_wrong_programs() {

@@ -39,21 +39,23 @@ extern "C" {
 
 /* The refusals. */
 enum {
-    YARD_TOO_LONG = 1,     /* the sheet has more than 4,096 bytes */
-    YARD_CUT = 2,          /* the sheet ends in the middle of a record */
-    YARD_LEFTOVER = 3,     /* a byte behind the erased part is not FF; its place is that byte */
-    YARD_KIND = 4,         /* a record is neither C3 nor C5 */
-    YARD_LENGTH = 5,       /* a record's length is not its kind's; or a wrong count of numbers was passed */
-    YARD_RANGE = 6,        /* a number is outside its range; or a state is not one that a call left */
-    YARD_NUMBER = 7,       /* the sheet has no curve of that number; the first is 1 */
-    YARD_STILL = 8,        /* all points are equal, or all w are zero */
-    YARD_NOT_PH = 9,       /* the curve is not Pythagorean */
-    YARD_NO_PREIMAGE = 10, /* the curve is Pythagorean, but has no pre-image */
-    YARD_ROOT = 11,        /* c is not a square */
-    YARD_ROOM = 12,        /* the lent area, or the erased part of the sheet, is too short */
-    YARD_THIRDS = 13,      /* 2 w1^2 + w0 w2 has a part that 3 does not divide */
-    YARD_DEAD_END = 14,    /* the first or the last leg is zero */
-    YARD_ENDED = 19        /* the sheet that comes in parts has ended */
+    YARD_TOO_LONG = 1,       /* the sheet has more than 4,096 bytes */
+    YARD_CUT = 2,            /* the sheet ends in the middle of a record */
+    YARD_LEFTOVER = 3,       /* a byte behind the erased part is not FF; its place is that byte */
+    YARD_KIND = 4,           /* the first record is not the header MN, or a later one is neither C3 nor C5 */
+    YARD_LENGTH = 5,         /* a record's length is not its kind's; or a wrong count of numbers was passed */
+    YARD_RANGE = 6,          /* a number is outside its range; or a state is not one that a call left */
+    YARD_NUMBER = 7,         /* the sheet has no curve of that number; the first is 1 */
+    YARD_STILL = 8,          /* all points are equal, or all w are zero */
+    YARD_NOT_PH = 9,         /* the curve is not Pythagorean */
+    YARD_NO_PREIMAGE = 10,   /* the curve is Pythagorean, but has no pre-image */
+    YARD_ROOT = 11,          /* c is not a square */
+    YARD_ROOM = 12,          /* the lent area, the sheet to start or its erased part is too short */
+    YARD_THIRDS = 13,        /* 2 w1^2 + w0 w2 has a part that 3 does not divide */
+    YARD_DEAD_END = 14,      /* the first or the last leg is zero */
+    YARD_NO_MISSION = 15,    /* the sheet is all FF: it has not been started for a mission */
+    YARD_OTHER_MISSION = 16, /* the sheet's header has another mission than the expected one */
+    YARD_ENDED = 19          /* the sheet that comes in parts has ended */
 };
 
 /* The verdicts: the first number that yard_recognise writes. */
@@ -79,9 +81,10 @@ enum {
     YARD_JOIN_NUMBERS = 24,
     YARD_FOUND_NUMBERS = 2,
     YARD_ROOT_NUMBERS = 2,
-    YARD_PARTS_NUMBERS = 12,
+    YARD_PARTS_NUMBERS = 13,
+    YARD_HEADER_BYTES = 6,   /* the shortest sheet that can be started */
     YARD_SHEET_BYTES = 4096, /* the longest sheet */
-    YARD_REPORT_BYTES = 5321 /* no report is longer */
+    YARD_REPORT_BYTES = 5335 /* no report is longer */
 };
 
 /* What yard_parts_ask returns of a sheet that has not ended: no answer, and no refusal. */
@@ -135,31 +138,41 @@ int64_t yard_build(int64_t x, int64_t y, const int64_t *w, size_t n, int64_t *ou
  * Refuses: RANGE, DEAD END, ROOM (below 24, however many there are). */
 int64_t yard_joins(int64_t ax, int64_t ay, int64_t zx, int64_t zy, int64_t tx, int64_t ty, int64_t *out, size_t room);
 
+/* Sheets. A sheet is all FF, or begins with its header: a record of kind MN, which holds the number of the mission that
+ * the sheet is for, any from 0 to 65,535. Curves follow, counted from 1: the header is no curve. */
+
 /* Checks a sheet whole. Returns the count of its curves.
  * Refuses: TOO LONG; then the first fault in sheet order, with its place: CUT, KIND, LENGTH, CUT, RANGE of a
- * record, or LEFTOVER. */
+ * record, or LEFTOVER. A first record that is no header is KIND, and so is a header further on. */
 int64_t yard_check(const uint8_t *s, size_t len);
 
-/* The curve of a number, counted from 1. out: its coordinates. Returns 8 or 12.
- * Refuses: as yard_check, NUMBER, ROOM (below 8 or 12). */
-int64_t yard_read(const uint8_t *s, size_t len, uint64_t number, int64_t *out, size_t room);
+/* The curve of a number, counted from 1, on the sheet of the expected mission. out: its coordinates. Returns 8 or 12.
+ * Refuses: as yard_check, OTHER MISSION, NUMBER, ROOM (below 8 or 12). A sheet that is all FF is no other mission's: it
+ * has no curves, and that is NUMBER. */
+int64_t yard_read(const uint8_t *s, size_t len, uint16_t mission, uint64_t number, int64_t *out, size_t room);
 
-/* The record of a curve, counted from 1. out: the place of its first byte, and how many bytes it has. Returns 2.
- * Refuses: as yard_check, NUMBER, ROOM (below 2). */
-int64_t yard_find(const uint8_t *s, size_t len, uint64_t number, int64_t *out, size_t room);
+/* The record of a curve, counted from 1, on the sheet of the expected mission. out: the place of its first byte, and
+ * how many bytes it has. Returns 2.
+ * Refuses: as yard_read, but ROOM below 2. */
+int64_t yard_find(const uint8_t *s, size_t len, uint16_t mission, uint64_t number, int64_t *out, size_t room);
 
-/* Makes every byte of a sheet FF. Returns 0.
+/* Makes every byte of a sheet FF. It has no mission then. Returns 0.
  * Refuses: TOO LONG. */
 int64_t yard_erase(uint8_t *s, size_t len);
 
+/* Starts a sheet for a mission: writes the header, and makes every byte behind it FF, whatever stood there. Returns 0.
+ * Refuses: TOO LONG, ROOM (below 6 bytes). */
+int64_t yard_start(uint8_t *s, size_t len, uint16_t mission);
+
 /* Writes a curve at the first erased place of a sheet, and changes no other byte. Returns 0.
- * Refuses: LENGTH (n), as yard_check, RANGE, ROOM (the erased part is shorter than the record). RANGE of a
+ * Refuses: LENGTH (n), as yard_check, NO MISSION, RANGE, ROOM (the erased part is shorter than the record). RANGE of a
  * coordinate has place 0. */
 int64_t yard_append(uint8_t *s, size_t len, const int64_t *p, size_t n);
 
-/* The report of a sheet: the area `text` holds it from its start and zeros behind it. Of a faulty sheet the report
- * is the line `refused NUMBER at PLACE`. Returns how many bytes the text has, without the zeros.
- * Refuses: ROOM (below that; 5,321 is always enough), and then the area is all zero. */
+/* The report of a sheet: the area `text` holds it from its start and zeros behind it. Its first line tells the mission
+ * and the count of curves, `mission 7 sheet 4`, and `mission none sheet 0` of a sheet that is all FF. Of a faulty sheet
+ * the report is the line `refused NUMBER at PLACE`. Returns how many bytes the text has, without the zeros.
+ * Refuses: ROOM (below that; 5,335 is always enough), and then the area is all zero. */
 int64_t yard_report(const uint8_t *s, size_t len, uint8_t *text, size_t room);
 
 /* The square root of any number: the greatest whole root r with r^2 <= n, and what is left over. out: r and the rest,
@@ -177,30 +190,32 @@ int64_t yard_root(uint64_t n, int64_t *out, size_t room);
  * from_cable stands for your own reading: how many bytes have arrived in `part`, perhaps none, and below 0 after the
  * last. `curves` is then what yard_check returns of the whole sheet, a refusal included.
  *
- * The state is all that is kept: the first 12 numbers of an area of `room` numbers. Those behind are left as they are.
+ * The state is all that is kept: the first 13 numbers of an area of `room` numbers. Those behind are left as they are.
  * It holds no pointer, so it may be copied, and two sheets may come at once, each with its own state. Let these calls
  * alone write it: numbers that they cannot have left are RANGE, with place 0. ROOM, that RANGE and ENDED change
  * nothing. Nobody needs to look into a state, but this is what stands there:
  *
  *     0         0 while parts may follow, 1 once the sheet has ended
  *     1         how many bytes came; 4,097 where they are more than 4,096, and then all numbers behind are 0
- *     2, 3      how many sound curves stand at the start, before any fault, and the place where they end
- *     4         how many bytes FF stand from that place on, up to the first other one
- *     5 to 11   the first 52 bytes from that place on, eight to a number as a little-endian int64_t; 0 for bytes that
- *               have not come, and for the last four of number 11 */
+ *     2         the mission, once the header has come whole and is sound; else 0
+ *     3, 4      how many sound curves stand at the start, before any fault, and the place where the sound records end:
+ *               6 behind a header alone, 0 where there is none
+ *     5         how many bytes FF stand from that place on, up to the first other one
+ *     6 to 12   the first 52 bytes from that place on, eight to a number as a little-endian int64_t; 0 for bytes that
+ *               have not come, and for the last four of number 12 */
 
 /* Begins a sheet of which nothing has come, whatever the area held. Returns 0.
- * Refuses: ROOM (below 12). */
+ * Refuses: ROOM (below 13). */
 int64_t yard_parts_start(int64_t *state, size_t room);
 
 /* Takes the next part of the sheet, of any size, also none. Tells no fault of the sheet: that waits for the end.
  * Returns 0.
- * Refuses: ROOM (below 12), RANGE (the state), ENDED (an empty part too). */
+ * Refuses: ROOM (below 13), RANGE (the state), ENDED (an empty part too). */
 int64_t yard_parts_feed(int64_t *state, size_t room, const uint8_t *part, size_t len);
 
 /* Ends the sheet, whether it has a fault or not. Returns the count of its curves. Ending once more returns the same and
  * changes nothing.
- * Refuses: ROOM (below 12), RANGE (the state), as yard_check of all bytes that were fed. */
+ * Refuses: ROOM (below 13), RANGE (the state), as yard_check of all bytes that were fed. */
 int64_t yard_parts_end(int64_t *state, size_t room);
 
 /* What yard_parts_end returned, and YARD_NOT_ENDED where the sheet has not ended. Changes nothing.

@@ -6,9 +6,10 @@
 //!     reference box FILE...               the report of a box of sheets
 //!     reference boxes FOLDER SEED         boxes by chance, each as a folder of sheets
 //!     reference sheet FILE.txt OUT        make a sheet from a readable text
-//!     reference read FILE NUMBER          the curve of that number, and its record's bytes
+//!     reference read FILE MISSION NUMBER  the curve of that number, and its record's bytes
 //!     reference append FILE OUT POINTS    the sheet with one more curve
 //!     reference erase FILE OUT            the sheet with every byte FF
+//!     reference start FILE OUT MISSION    the sheet with that mission's header and every other byte FF
 //!     reference compare COUNT SEED COMMAND...   calls by chance, compared with the library behind the command
 //!
 //! Status 0 is an answer, 1 a sheet or call refused or a difference, 2 a mistake in the command line or in a text.
@@ -41,9 +42,10 @@ usage: reference expect FILE               answer every call of a script, a line
        reference box FILE...               the report of a box of sheets
        reference boxes FOLDER SEED         boxes by chance, each as a folder of sheets
        reference sheet FILE.txt OUT        make a sheet from a readable text
-       reference read FILE NUMBER          the curve of that number, and its record's bytes
+       reference read FILE MISSION NUMBER  the curve of that number, and its record's bytes
        reference append FILE OUT POINTS    the sheet with one more curve
        reference erase FILE OUT            the sheet with every byte FF
+       reference start FILE OUT MISSION    the sheet with that mission's header and every other byte FF
        reference compare COUNT SEED COMMAND...
                                            calls by chance, compared with the library behind the command
 
@@ -53,12 +55,13 @@ A script line is `LABEL: CALL`; empty lines and lines that begin with # are skip
        build P0 from W0 W1                 build P0 from W0 W1 W2
        joins A Z over T in ROOM            root N
        check RUNS                          erase RUNS
-       parts RUNS / RUNS / ...
-       read NUMBER of RUNS                 find NUMBER of RUNS
+       parts RUNS / RUNS / ...             start MISSION on RUNS
+       read MISSION NUMBER of RUNS         find MISSION NUMBER of RUNS
        append C3 POINTS to RUNS            append C5 POINTS to RUNS
-A point or pair is (x,y), a curve 4 or 6 points with blanks between; a run of a sheet's bytes is (BYTE,HOW MANY).
+A point or pair is (x,y), a curve 4 or 6 points with blanks between; a run of a sheet's bytes is (BYTE,HOW MANY);
+a mission is a number from 0 to 65535.
 Parts are fed one after another, perhaps empty ones, and then the sheet is ended: the answer is that of `check`.
-A sheet text has lines `C3 POINTS`, `C5 POINTS`, `erased N`, `bytes 00 11 ff`, and # for comments.
+A sheet text has lines `mission N`, `C3 POINTS`, `C5 POINTS`, `erased N`, `bytes 00 11 ff`, and # for comments.
 Status 0 is an answer, 1 a sheet or call refused or a difference, 2 a mistake in the command line or in a text.
 ";
 
@@ -107,12 +110,16 @@ fn run(words: &[&str]) -> Result<End, String> {
             let bytes = in_file(file, script::sheet_bytes(&text_of(file)?))?;
             write(out, &bytes)
         }
-        ["read", file, number] => read(&bytes_of(file)?, number),
+        ["read", file, mission, number] => read(&bytes_of(file)?, mission, number),
         ["append", file, out, points @ ..] => {
             let curve = script::curve(points)?;
             changed(file, out, |bytes| sheet::append(bytes, &curve))
         }
         ["erase", file, out] => changed(file, out, sheet::erase),
+        ["start", file, out, mission] => {
+            let mission = script::number(mission)?;
+            changed(file, out, |bytes| sheet::start(bytes, mission))
+        }
         ["compare", count, seed, command @ ..] => {
             let (count, seed) = (whole(count)?, whole(seed)?);
             let compared = compare::compare(count, seed, command)?;
@@ -173,15 +180,13 @@ fn refused(refusal: Refusal) -> End {
     End::Refused(format!("refused {}\n", refusal.number()))
 }
 
-fn read(sheet: &[u8], number: &str) -> Result<End, String> {
-    let number = number
-        .parse()
-        .map_err(|_| format!("`{number}` is no number of a curve"))?;
-    Ok(match sheet::read(sheet, number) {
+fn read(sheet: &[u8], mission: &str, number: &str) -> Result<End, String> {
+    let (mission, number) = (script::number(mission)?, script::number(number)?);
+    Ok(match sheet::read(sheet, mission, number) {
         Err(refusal) => refused(refusal),
         Ok(curve) => {
             let points: Vec<String> = curve.points().iter().map(|p| p.to_string()).collect();
-            let record = sheet::find(sheet, number);
+            let record = sheet::find(sheet, mission, number);
             let hex: Vec<String> = record.iter().map(|byte| format!("{byte:02x}")).collect();
             End::Answer(format!("{}\n{}\n", points.join(" "), hex.join(" ")))
         }

@@ -16,12 +16,14 @@ pub enum Refusal {
     Room = 12,
     Thirds = 13,
     DeadEnd = 14,
+    NoMission = 15,
+    OtherMission = 16,
     Ended = 19,
     Full = 20,
 }
 
 /// The names of those that the calls for C know.
-const NAMES: [(Refusal, &str); 15] = [
+const NAMES: [(Refusal, &str); 17] = [
     (Refusal::TooLong, "TOO LONG"),
     (Refusal::Cut, "CUT"),
     (Refusal::Leftover, "LEFTOVER"),
@@ -36,6 +38,8 @@ const NAMES: [(Refusal, &str); 15] = [
     (Refusal::Room, "ROOM"),
     (Refusal::Thirds, "THIRDS"),
     (Refusal::DeadEnd, "DEAD END"),
+    (Refusal::NoMission, "NO MISSION"),
+    (Refusal::OtherMission, "OTHER MISSION"),
     (Refusal::Ended, "ENDED"),
 ];
 

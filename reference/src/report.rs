@@ -10,7 +10,10 @@ use crate::verdict::{recognise, Ph, Verdict};
 pub fn report(sheet: &[u8]) -> Result<String, String> {
     let refused = |refusal: Refusal, place| format!("refused {} at {place}\n", refusal.number());
     let listing = check(sheet).map_err(|fault| refused(fault.refusal, fault.place))?;
-    let mut text = format!("sheet {}\n", listing.records.len());
+    let mission = listing
+        .mission
+        .map_or("none".to_string(), |m| m.to_string());
+    let mut text = format!("mission {mission} sheet {}\n", listing.records.len());
     for (record, number) in listing.records.iter().zip(1..) {
         let kind = kind_name(&record.curve);
         text += &format!("{number} {kind} {}\n", verdict_text(&record.curve));
@@ -34,20 +37,22 @@ fn verdict_text(curve: &Curve) -> String {
 mod tests {
     use super::*;
     use crate::curve::curve;
-    use crate::sheet::record_bytes;
+    use crate::sheet::{header_bytes, record_bytes};
 
-    fn sheet_of(curves: &[Curve], erased: usize) -> Vec<u8> {
+    fn sheet_of(mission: u16, curves: &[Curve], erased: usize) -> Vec<u8> {
         let records = curves
             .iter()
-            .map(|c| record_bytes(c).expect("small coordinates"));
-        records.chain([vec![0xFF; erased]]).flatten().collect()
+            .flat_map(|c| record_bytes(c).expect("small coordinates"));
+        let mut bytes = header_bytes(mission);
+        bytes.extend(records.chain(vec![0xFF; erased]));
+        bytes
     }
 
     #[test]
     fn sample_report() {
         let line = curve(&[(0, 0), (1, 0), (2, 0), (3, 0), (4, 0), (5, 0)]);
-        let sheet = sheet_of(&[line, curve(&[(-1, -1); 4])], 10);
-        let expected = "sheet 2\n1 C5 pre c=1 len=60/12\n2 C3 still\n";
+        let sheet = sheet_of(7, &[line, curve(&[(-1, -1); 4])], 10);
+        let expected = "mission 7 sheet 2\n1 C5 pre c=1 len=60/12\n2 C3 still\n";
         assert_eq!(report(&sheet).as_deref(), Ok(expected));
     }
 
@@ -55,16 +60,24 @@ mod tests {
     fn other_verdicts() {
         let ph = curve(&[(0, 0), (0, 0), (1, 0), (3, 0)]);
         let no = curve(&[(0, 0), (1, 0), (1, 1), (2, 1)]);
-        let expected = "sheet 2\n1 C3 ph c=4\n2 C3 no\n";
-        assert_eq!(report(&sheet_of(&[ph, no], 0)).as_deref(), Ok(expected));
+        let sheet = sheet_of(u16::MAX, &[ph, no], 0);
+        let expected = "mission 65535 sheet 2\n1 C3 ph c=4\n2 C3 no\n";
+        assert_eq!(report(&sheet).as_deref(), Ok(expected));
     }
 
     #[test]
     fn empty_and_refused() {
-        assert_eq!(report(&[]).as_deref(), Ok("sheet 0\n"));
-        let mut sheet = sheet_of(&[curve(&[(0, 0); 4])], 9);
-        sheet[40] = 7;
-        let refused = "refused 3 at 40\n".to_string();
+        for erased in [0, 1, 6, 4_096] {
+            let none = "mission none sheet 0\n";
+            assert_eq!(report(&vec![0xFF; erased]).as_deref(), Ok(none));
+        }
+        let alone = report(&sheet_of(0, &[], 3));
+        assert_eq!(alone.as_deref(), Ok("mission 0 sheet 0\n"));
+        let mut sheet = sheet_of(7, &[curve(&[(0, 0); 4])], 9);
+        let headerless = "refused 4 at 0\n".to_string();
+        assert_eq!(report(&sheet[6..]), Err(headerless));
+        sheet[46] = 7;
+        let refused = "refused 3 at 46\n".to_string();
         assert_eq!(report(&sheet), Err(refused));
         let too_long = "refused 1 at 0\n".to_string();
         assert_eq!(report(&[0; 4_097]), Err(too_long));

@@ -1,24 +1,41 @@
 //! The calls of a script on sheets. A sheet is told by its runs of equal bytes, each as `(BYTE,HOW MANY)`.
 
-use crate::parts::{end, feed, start, NUMBERS};
+use crate::parts::{self, NUMBERS};
 use crate::refusal::Refusal;
 use crate::script::{a_pair, curve, number, row};
-use crate::sheet::{append, check, count, erase, find, read, Fault};
+use crate::sheet::{append, check, count, erase, find, read, start, Fault};
 
 /// The answer to a call on a sheet; nothing where it is a call of another kind.
 pub fn answer(name: &str, words: &[&str]) -> Option<Result<String, String>> {
     Some(match name {
         "check" => bytes(words).map(|sheet| check_text(count(&sheet))),
         "parts" => parts_text(words),
-        "read" => numbered(words).map(|(number, sheet)| match read(&sheet, number) {
-            Ok(curve) => row(curve.points()),
-            Err(refusal) => refused(&sheet, refusal),
-        }),
-        "find" => numbered(words).map(|(number, sheet)| {
-            let part = find(&sheet, number);
-            format!("{} bytes{}", part.len(), runs(part))
-        }),
-        "erase" => bytes(words).map(|sheet| changed(sheet, erase)),
+        "read" => asked(words).map(
+            |Asked {
+                 mission,
+                 number,
+                 sheet,
+             }| {
+                match read(&sheet, mission, number) {
+                    Ok(curve) => row(curve.points()),
+                    Err(refusal) => fault_text(placed(&sheet, refusal)),
+                }
+            },
+        ),
+        "find" => asked(words).map(
+            |Asked {
+                 mission,
+                 number,
+                 sheet,
+             }| {
+                let part = find(&sheet, mission, number);
+                format!("{} bytes{}", part.len(), runs(part))
+            },
+        ),
+        "erase" => {
+            bytes(words).map(|sheet| changed(sheet, |sheet| erase(sheet).map_err(Fault::from)))
+        }
+        "start" => start_text(words),
         "append" => append_text(words),
         _ => return None,
     })
@@ -38,11 +55,22 @@ fn fault_text(fault: Fault) -> String {
 /// `RUNS / RUNS / …`, of which each may be empty: what the check by parts says when all are fed and the sheet is ended.
 fn parts_text(words: &[&str]) -> Result<String, String> {
     let mut state = [0; NUMBERS];
-    start(&mut state).expect("room for a state");
+    parts::start(&mut state).expect("room for a state");
     for part in words.split(|word| *word == "/") {
-        feed(&mut state, &bytes(part)?).expect("a state that has not ended");
+        parts::feed(&mut state, &bytes(part)?).expect("a state that has not ended");
     }
-    Ok(check_text(end(&mut state)))
+    Ok(check_text(parts::end(&mut state)))
+}
+
+/// `MISSION on RUNS`
+fn start_text(words: &[&str]) -> Result<String, String> {
+    let [mission, "on", sheet @ ..] = words else {
+        return Err("not `start MISSION on RUNS`".to_string());
+    };
+    let mission = number(mission)?;
+    Ok(changed(bytes(sheet)?, |sheet| {
+        start(sheet, mission).map_err(Fault::from)
+    }))
 }
 
 /// `C3 POINTS to RUNS` or `C5 POINTS to RUNS`
@@ -57,31 +85,43 @@ fn append_text(words: &[&str]) -> Result<String, String> {
         return Err(malformed.to_string());
     }
     let curve = curve(points)?;
-    Ok(changed(bytes(sheet)?, |sheet| append(sheet, &curve)))
+    Ok(changed(bytes(sheet)?, |sheet| {
+        append(sheet, &curve).map_err(|refusal| placed(sheet, refusal))
+    }))
 }
 
 /// What a call that writes a sheet says, and the sheet as it is left.
-fn changed(mut sheet: Vec<u8>, call: impl Fn(&mut [u8]) -> Result<(), Refusal>) -> String {
-    let before = sheet.clone();
+fn changed(mut sheet: Vec<u8>, call: impl Fn(&mut [u8]) -> Result<(), Fault>) -> String {
     let said = match call(&mut sheet) {
         Ok(()) => "done".to_string(),
-        Err(refusal) => refused(&before, refusal),
+        Err(fault) => fault_text(fault),
     };
     format!("{said}, left{}", runs(&sheet))
 }
 
-/// A refusal and its place: that of the sheet's fault, if it has one, else 0.
-fn refused(sheet: &[u8], refusal: Refusal) -> String {
+/// A refusal of a call that checks the sheet, with its place: that of the sheet's fault, if it has one, else 0.
+fn placed(sheet: &[u8], refusal: Refusal) -> Fault {
     let place = check(sheet).err().map_or(0, |fault| fault.place);
-    fault_text(Fault { refusal, place })
+    Fault { refusal, place }
 }
 
-/// `NUMBER of RUNS`
-fn numbered(words: &[&str]) -> Result<(usize, Vec<u8>), String> {
-    let [which, "of", sheet @ ..] = words else {
-        return Err("not `NUMBER of RUNS`".to_string());
+/// What a curve is asked for by.
+struct Asked {
+    mission: u16,
+    number: usize,
+    sheet: Vec<u8>,
+}
+
+/// `MISSION NUMBER of RUNS`
+fn asked(words: &[&str]) -> Result<Asked, String> {
+    let [mission, which, "of", sheet @ ..] = words else {
+        return Err("not `MISSION NUMBER of RUNS`".to_string());
     };
-    Ok((number(which)?, bytes(sheet)?))
+    Ok(Asked {
+        mission: number(mission)?,
+        number: number(which)?,
+        sheet: bytes(sheet)?,
+    })
 }
 
 fn bytes(words: &[&str]) -> Result<Vec<u8>, String> {
@@ -111,23 +151,36 @@ mod tests {
             .expect("well formed")
     }
 
+    const HEADER: &str = "(6,1) (0,1) (77,1) (78,1) (7,1) (0,1)";
     const CUBIC: &str = "(36,1) (0,1) (67,1) (51,1) (0,32)";
 
     #[test]
     fn answers_with_their_places() {
+        let sheet = format!("{HEADER} {CUBIC}");
         assert_eq!(said("check"), "curves 0");
-        assert_eq!(said(&format!("check {CUBIC} (255,3)")), "curves 1");
-        assert_eq!(said(&format!("check {CUBIC} (0,1)")), "refused 2 at 36");
+        assert_eq!(said(&format!("check {HEADER}")), "curves 0");
+        assert_eq!(said(&format!("check {sheet} (255,3)")), "curves 1");
+        assert_eq!(said(&format!("check {sheet} (0,1)")), "refused 2 at 42");
+        assert_eq!(said(&format!("check {CUBIC}")), "refused 4 at 0");
+        assert_eq!(said(&format!("check {sheet} {HEADER}")), "refused 4 at 42");
         assert_eq!(
-            said(&format!("read 1 of {CUBIC}")),
+            said(&format!("read 7 1 of {sheet}")),
             "(0,0) (0,0) (0,0) (0,0)"
         );
-        assert_eq!(said(&format!("read 2 of {CUBIC}")), "refused 7 at 0");
+        assert_eq!(said(&format!("read 7 2 of {sheet}")), "refused 7 at 0");
+        assert_eq!(said(&format!("read 8 1 of {sheet}")), "refused 16 at 0");
+        assert_eq!(said(&format!("read 263 2 of {sheet}")), "refused 16 at 0");
         assert_eq!(
-            said(&format!("find 1 of {CUBIC} (255,9)")),
+            said(&format!("read 8 1 of {sheet} (0,1)")),
+            "refused 2 at 42"
+        );
+        assert_eq!(said("read 8 1 of (255,9)"), "refused 7 at 0");
+        assert_eq!(
+            said(&format!("find 7 1 of {sheet} (255,9)")),
             format!("36 bytes {CUBIC}")
         );
-        assert_eq!(said("find 1 of (255,9)"), "0 bytes");
+        assert_eq!(said(&format!("find 8 1 of {sheet}")), "0 bytes");
+        assert_eq!(said("find 7 1 of (255,9)"), "0 bytes");
     }
 
     #[test]
@@ -136,13 +189,41 @@ mod tests {
         assert_eq!(said("erase (7,4097)"), "refused 1 at 0, left (7,4097)");
         let cubic = "append C3 (0,0) (0,0) (0,0) (0,0) to";
         assert_eq!(
-            said(&format!("{cubic} (255,40)")),
-            format!("done, left {CUBIC} (255,4)")
+            said(&format!("{cubic} {HEADER} (255,40)")),
+            format!("done, left {HEADER} {CUBIC} (255,4)")
         );
         assert_eq!(
-            said(&format!("{cubic} (255,35)")),
-            "refused 12 at 0, left (255,35)"
+            said(&format!("{cubic} {HEADER} (255,35)")),
+            format!("refused 12 at 0, left {HEADER} (255,35)")
         );
+        assert_eq!(
+            said(&format!("{cubic} (255,40)")),
+            "refused 15 at 0, left (255,40)"
+        );
+        assert_eq!(
+            said(&format!("{cubic} (255,3) (7,1)")),
+            "refused 3 at 3, left (255,3) (7,1)"
+        );
+    }
+
+    /// What stood there does not matter, nor has a refusal a place: these five bytes have a fault at byte 4.
+    #[test]
+    fn sheets_that_are_started() {
+        assert_eq!(
+            said(&format!("start 7 on {CUBIC}")),
+            format!("done, left {HEADER} (255,30)")
+        );
+        assert_eq!(
+            said("start 65535 on (255,7)"),
+            "done, left (6,1) (0,1) (77,1) (78,1) (255,3)"
+        );
+        let short = "(255,4) (7,1)";
+        assert_eq!(said(&format!("check {short}")), "refused 3 at 4");
+        assert_eq!(
+            said(&format!("start 7 on {short}")),
+            format!("refused 12 at 0, left {short}")
+        );
+        assert_eq!(said("start 0 on (7,4097)"), "refused 1 at 0, left (7,4097)");
     }
 
     #[test]
@@ -151,10 +232,12 @@ mod tests {
             ("", "curves 0"),
             ("/", "curves 0"),
             (
-                "(36,1) / (0,1) (67,1) / / (51,1) (0,32) (255,1) / (255,1)",
+                "(6,1) / (0,1) (77,1) / (78,1) (7,1) / (0,1) (36,1) / (0,1) (67,1) / / (51,1) (0,32) (255,1) / (255,1)",
                 "curves 1",
             ),
-            ("(36,1) (0,1) / (67,1) (51,1) (0,31)", "refused 2 at 0"),
+            ("(6,1) (0,1) (77,1) / (78,1) (7,1) (255,1) (36,1) (0,1) / (67,1) (51,1) (0,31)", "refused 2 at 6"),
+            ("(6,1) (0,1) (77,1) / (78,1) (7,1)", "refused 2 at 0"),
+            ("(36,1) (0,1) / (67,1) (51,1) (0,31)", "refused 4 at 0"),
             ("(255,2) / (255,7) (0,1) / (255,9)", "refused 3 at 9"),
             ("(0,4) / (255,4092) /", "refused 4 at 0"),
             ("(0,4) / (255,4092) / (255,1)", "refused 1 at 0"),
@@ -173,7 +256,12 @@ mod tests {
             "check (0,1) / (0,1)",
             "parts (0,1) / (0,-1)",
             "parts (0,1)/(0,1)",
-            "read (255,2)",
+            "read 7 (255,2)",
+            "read 1 of (255,2)",
+            "read 65536 1 of (255,2)",
+            "find -1 1 of (255,2)",
+            "start (255,9)",
+            "start 65536 on (255,9)",
             "append C3 (0,0) to (255,9)",
             "erase 4",
         ] {

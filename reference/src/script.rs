@@ -10,7 +10,7 @@ use crate::pair::{pair, Pair};
 use crate::refusal::Refusal;
 use crate::root::root;
 use crate::runs;
-use crate::sheet::record_bytes;
+use crate::sheet::{header_bytes, record_bytes};
 use crate::verdict::{recognise, Ph, Pre, Verdict};
 use std::fmt::Display;
 use std::str::FromStr;
@@ -187,6 +187,7 @@ pub fn sheet_bytes(text: &str) -> Result<Vec<u8>, String> {
 fn sheet_part(words: &[&str]) -> Result<Vec<u8>, String> {
     match words {
         [] => Ok(Vec::new()),
+        ["mission", mission] => Ok(header_bytes(number(mission)?)),
         ["erased", count] => Ok(vec![0xFF; number::<u16>(count)?.into()]),
         ["bytes", hex @ ..] => hex.iter().map(|word| hex_byte(word)).collect(),
         [kind @ ("C3" | "C5"), points @ ..] => {
@@ -197,7 +198,7 @@ fn sheet_part(words: &[&str]) -> Result<Vec<u8>, String> {
             let bytes = record_bytes(&curve(points)?);
             bytes.ok_or("a coordinate doesn't fit into 4 bytes".to_string())
         }
-        _ => Err("not `C3 …`, `C5 …`, `erased N` or `bytes …`".to_string()),
+        _ => Err("not `mission N`, `C3 …`, `C5 …`, `erased N` or `bytes …`".to_string()),
     }
 }
 
@@ -290,13 +291,23 @@ mod tests {
 
     #[test]
     fn sheet_texts() {
-        let text = "# a sheet\nC3 (-1,-1) (-1,-1) (-1,-1) (-1,-1)\nerased 2 # tail\nbytes 00 fF\n";
+        let text = "# a sheet\nmission 519\nC3 (-1,-1) (-1,-1) (-1,-1) (-1,-1)\nerased 2 # tail\nbytes 00 fF\n";
         let bytes = sheet_bytes(text).expect("a good text");
-        assert_eq!(bytes[..4], [36, 0, b'C', b'3']);
-        assert_eq!(bytes[4..36], [0xFF; 32]);
-        assert_eq!(bytes[36..], [0xFF, 0xFF, 0x00, 0xFF]);
+        assert_eq!(bytes[..6], *b"\x06\0MN\x07\x02");
+        assert_eq!(bytes[6..10], [36, 0, b'C', b'3']);
+        assert_eq!(bytes[10..42], [0xFF; 32]);
+        assert_eq!(bytes[42..], [0xFF, 0xFF, 0x00, 0xFF]);
         for bad in [
-            "C3 (0,0)", "C4", "bytes 0", "bytes +1", "erased", "erased x",
+            "C3 (0,0)",
+            "C4",
+            "bytes 0",
+            "bytes +1",
+            "erased",
+            "erased x",
+            "mission",
+            "mission -1",
+            "mission 65536",
+            "mission 1 2",
         ] {
             assert!(sheet_bytes(bad).is_err(), "{bad}");
         }

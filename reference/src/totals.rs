@@ -126,7 +126,7 @@ fn with_point(hundredths: i128) -> String {
 mod tests {
     use super::*;
     use crate::curve::curve;
-    use crate::sheet::record_bytes;
+    use crate::sheet::{header_bytes, record_bytes};
 
     fn named(sheets: &[Vec<u8>]) -> Vec<(String, Vec<u8>)> {
         sheets
@@ -137,7 +137,11 @@ mod tests {
 
     fn sheet_of(curves: &[Curve]) -> Vec<u8> {
         let records = curves.iter().map(|c| record_bytes(c).expect("small"));
-        records.flatten().collect()
+        [header_bytes(7)]
+            .into_iter()
+            .chain(records)
+            .flatten()
+            .collect()
     }
 
     fn tail(text: &str, lines: usize) -> Vec<&str> {
@@ -183,8 +187,22 @@ mod tests {
         damaged.push(0);
         let (text, refused) = report(&named(&[damaged]));
         assert!(refused);
-        assert!(text.starts_with("1 s: refused 2 at 36\nsheets 1\nstill 0\nno 0\nph 0\npre 0\n"));
+        assert!(text.starts_with("1 s: refused 2 at 42\nsheets 1\nstill 0\nno 0\nph 0\npre 0\n"));
         assert_eq!(tail(&text, 2), ["sum 0.00", "longest none"]);
+    }
+
+    /// A header is no curve, and sheets of two missions are as good as of one.
+    #[test]
+    fn curves_count_whoever_they_are_for() {
+        let c2 = curve(&[(0, 0), (1, 0), (1, 1), (0, 1)]);
+        let sheet = sheet_of(&[c2]);
+        let headerless = sheet[6..].to_vec();
+        let mut other = sheet.clone();
+        other[4] = 8;
+        let (text, _) = report(&named(&[sheet, other, sheet_of(&[]), headerless]));
+        let lines = "1 s: 1 curves\n2 s: 1 curves\n3 s: 0 curves\n4 s: refused 4 at 0\nsheets 4\n";
+        assert!(text.starts_with(lines), "{text}");
+        assert!(text.contains("\npre 2\n") && text.contains("\nrefused 4 1\n"));
     }
 
     #[test]

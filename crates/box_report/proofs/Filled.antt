@@ -37,7 +37,7 @@ module _ (t : Totals) (s : List ℕ) (r : Added) (b : Boxed t) (a : Adds t s r) 
       (λ l.
       let k = a .room (omega arith) in
       let x = boxed-taken (omega arith) in
-      line-short (r .totals .sheets) name s (k .counted) (answerOfChecked (r .answer)) (omega (arith, sheets-of (x .0) (r .totals) (x .1), x .2)) (k .sheet-is) (k .says))
+      line-short (r .totals .sheets) name s (r .answer) (omega (arith, sheets-of (x .0) (r .totals) (x .1), x .2)) (k .says))
       (λ l. absurd (n (ap (λ (u : Totals). u .sheets) (a .full (omega arith) .0))))
 
 pub totals-room : (t : Totals) → Boxed t → length (totalsText t) ≤ 512

@@ -2,7 +2,7 @@
 --   bytes-all      numbers that a byte holds
 --   part-taken     a part more.      count-grows   which is counted
 --   Says, says     what is told once the bytes have ended: the answer of their check
---   line-short     a line has at most 19 bytes
+--   line-short     a line has at most 24 bytes
 --   line-first     it is the first of the report
 use mathlib.Core.Path.{_≡_, refl, sym, ap, _∙_, subst}
 use mathlib.Core.Bool.{Bool, true, false}
@@ -17,8 +17,12 @@ use Rattle.refusal.proofs.Answers.{by-order}
 use Rattle.record.specs.Numbers.{AllBytes}
 use Rattle.record.specs.Records.{longest}
 use Rattle.record.proofs.Words.{all-append}
-use Rattle.sheet.specs.Survey.{Entry, outcome}
-use Rattle.sheet.specs.Promise.{countOf, Checks}
+use Rattle.sheet.specs.declared.Mission.{Mission}
+use Rattle.sheet.specs.Survey.{Entry, survey, outcome, missionOf}
+use Rattle.sheet.specs.Promise.{countOf, toldOf, Checks}
+use Rattle.sheet.proofs.Surveys.{sound-of}
+use Rattle.sheet.proofs.Faults.{curves-few}
+use Rattle.sheet.proofs.Missions.{mission-small}
 use Rattle.report_text.specs.Promise.{ReportOf, Report}
 use Rattle.report_text.proofs.Short.{refused-short, first-short}
 use Rattle.states.specs.declared.State.{State}
@@ -28,6 +32,7 @@ use Rattle.parts.specs.declared.Told.the-variants as told
 use Rattle.states.specs.States.{stateOf, IsOf}
 use Rattle.parts.specs.Promise.{Feeds, EndsSheet, ends, Asks, checked}
 use Rattle.states.specs.Steps.{answerIn}
+use Rattle.states.proofs.Packed.{byte-at}
 use Rattle.states.proofs.Fronts.{state-long, state-short}
 use Rattle.states.proofs.Outcome.{answer-is}
 use Rattle.parts.proofs.Once.{feeds-each, ends-once, asks-once}
@@ -74,16 +79,21 @@ says st ended x e a s h = subst (Says s) (sym (asks-once ended x (told.Sheet (an
 
 -- ---- the line
 
-pub line-short : (s : List ℕ) → length (lineOf s) ≤ 19
-line-short s = by (outcome s) refl
+pub line-short : (s : List ℕ) → AllBytes s → length (lineOf s) ≤ 24
+line-short s bytes = by (outcome s) refl
   where
-    by : (a : Answer (List Entry)) → outcome s ≡ a → length (answerLine (with-given countOf a)) ≤ 19
-    by (refused f) o = refused-short s f o
-    by (given es) o = omega (arith, first-short s es o)
+    short : (es : List Entry) → survey s .records ≡ es → length (answerLine (given (toldOf es))) ≤ 24
+    short es e =
+        subst (λ (l : List Entry). length (answerLine (given (toldOf l))) ≤ 24) e
+        (first-short (missionOf (survey s .records)) (countOf (survey s .records)) (mission-small s (λ i. record { fits = byte-at s bytes i })) (curves-few s))
+
+    by : (a : Answer (List Entry)) → outcome s ≡ a → length (answerLine (with-given toldOf a)) ≤ 24
+    by (refused f) o = omega (arith, refused-short s f o)
+    by (given es) o = short es (sound-of s o .1)
 
 pub line-first : (s text : List ℕ) → Report s text → (rest : List ℕ) × (text ≡ lineOf s ++ rest)
-line-first s text = by (with-given countOf (outcome s))
+line-first s text = by (with-given toldOf (outcome s))
   where
-    by : (a : Answer ℕ) → ReportOf s a text → (rest : List ℕ) × (text ≡ answerLine a ++ rest)
+    by : (a : Answer (Mission × ℕ)) → ReportOf s a text → (rest : List ℕ) × (text ≡ answerLine a ++ rest)
     by (refused f) h = ([], h ∙ sym (append-nil (answerLine (refused f))))
-    by (given count) (lines, of-curves, is) = (lines, is)
+    by (given (m, count)) (lines, of-curves, is) = (lines, is)

@@ -11,20 +11,21 @@ use Prim.Native.Nat.{ℕ, _≤_, _<_}
 use lib.ListN.{length, take}
 use Rattle.refusal.specs.Answers.{Answer, refused, given, with-given}
 use Rattle.record.specs.Records.{longest}
+use Rattle.sheet.specs.declared.Mission.{Mission}
 use Rattle.sheet.specs.Survey.{outcome}
-use Rattle.sheet.specs.Promise.{countOf}
+use Rattle.sheet.specs.Promise.{toldOf}
 use Rattle.report_text.specs.Texts.{firstLine, refusedLine}
 use Rattle.states.specs.declared.State.{State}
 use Rattle.states.specs.States.{IsOf}
 use Rattle.cable.specs.declared.Stop.{Stop}
 use Rattle.cable.specs.declared.Stop.the-variants as stop
 
-abbrev pub answerLine : Answer ℕ → List ℕ
-answerLine (given count) = firstLine count
+abbrev pub answerLine : Answer (Mission × ℕ) → List ℕ
+answerLine (given (m, count)) = firstLine m count
 answerLine (refused f) = refusedLine f
 
 abbrev pub lineOf : List ℕ → List ℕ
-lineOf s = answerLine (with-given countOf (outcome s))
+lineOf s = answerLine (with-given toldOf (outcome s))
 
 abbrev pub Arriving : State → Type 0
 Arriving st = (s : List ℕ) × IsOf st s false

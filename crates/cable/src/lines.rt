@@ -17,7 +17,7 @@ fn put_answer(area: &mut [u8], answer: Checked) -> Place
     ensures { λ r. ⌜ Writes (now (area .entry)) (At 0) (answerLine (answerOfChecked answer)) (now (area .exit)) r ⌝ }
 {
     match answer {
-        Checked::Curves(count) => put_first_line(area, Place::At(0), count),
+        Checked::Sheet { mission, curves } => put_first_line(area, Place::At(0), mission, curves),
         Checked::Refused(f) => put_refused(area, Place::At(0), f),
     }
 }

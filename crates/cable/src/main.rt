@@ -68,7 +68,7 @@ fn take_parts(area: &mut [u8]) -> Arrived
 
 // The line of the bytes that were taken, which have ended.
 fn line_in(state: State, text: &mut [u8]) -> usize
-    requires { ⌜ Arriving state × (19 ≤ length (now text)) ⌝ }
+    requires { ⌜ Arriving state × (24 ≤ length (now text)) ⌝ }
     ensures { λ n. ⌜ LineIn state n (now (text .exit)) ⌝ }
 {
     let ended = end(state);
@@ -82,7 +82,7 @@ fn line_in(state: State, text: &mut [u8]) -> usize
 }
 
 fn check_input(area: &mut [u8], text: &mut [u8])
-    requires { ⌜ 19 ≤ length (now text) ⌝ }
+    requires { ⌜ 24 ≤ length (now text) ⌝ }
 {
     let arrived = take_parts(area);
     let stop = arrived.stop;
@@ -94,9 +94,9 @@ fn check_input(area: &mut [u8], text: &mut [u8])
     io::write_all(STDOUT_FILENO, &text[..end]);
 }
 
-// No line is longer than 19 bytes.
+// No line is longer than 24 bytes.
 fn main() {
     let mut area = [0u8; 4096];
-    let mut text = [0u8; 19];
+    let mut text = [0u8; 24];
     check_input(&mut area, &mut text);
 }

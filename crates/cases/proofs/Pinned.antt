@@ -8,6 +8,7 @@ use native.Mathlib.Omega.{arith}
 use lib.IntN.{pos}
 use lib.ListN.{replicate, length-replicate}
 use Rattle.refusal.specs.declared.Refusal.the-variants as refusal
+use Rattle.refusal.specs.declared.Fault.{Fault}
 use Rattle.refusal.specs.Answers.{with-given, if_then_else_}
 use Rattle.whole.specs.Coefficients.{at}
 use Rattle.poly.proofs.Zeros.{at-zeros}
@@ -22,10 +23,13 @@ use Rattle.verdict.specs.Promise.{Recognised}
 use Rattle.verdict.proofs.Refusals.{recognised-by}
 use Rattle.record.specs.Numbers.{signedOf, coordinates}
 use Rattle.record.specs.Kinds.{words, numbersOf, pointsIn}
-use Rattle.record.specs.Records.{erased, erasedEnd, erasedStep, named, kindIn, allWithin, sizedStep, stepOf}
+use Rattle.record.specs.Records.{erased, erasedEnd, erasedStep, named, kindIn, mayStand, allWithin, sizedStep, stepOf}
 use Rattle.record.proofs.Formed.{range-is}
-use Rattle.sheet.specs.Survey.{Survey, surveyFrom, survey, soundly, outcome}
-use Rattle.sheet.specs.Promise.{countOf}
+use Rattle.record.specs.Promise.{puttingAt}
+use Rattle.sheet.specs.declared.Mission.the-variants.{None}
+use Rattle.sheet.specs.declared.Change.the-variants as change
+use Rattle.sheet.specs.Survey.{Survey, surveyFrom, surveyOf, survey, soundly, outcome}
+use Rattle.sheet.specs.Promise.{toldOf, starting, appending}
 use Rattle.sheet.proofs.Surveys.{survey-long}
 use Rattle.sheet.proofs.Examples.{erased-sheet}
 use Rattle.text.specs.Texts.{digitsOf}
@@ -35,14 +39,14 @@ use Rattle.cases.proofs.Starred.{table-holds}
 
 -- ---- sheets known by their length
 
-counted : (s : List ℕ) {v : Survey} → survey s ≡ v → with-given countOf (soundly (v .ending) (v .records)) ≡ with-given countOf (outcome s)
-counted s e = sym (ap (λ (v : Survey). with-given countOf (soundly (v .ending) (v .records))) e)
+told : (s : List ℕ) {v : Survey} → survey s ≡ v → with-given toldOf (soundly (v .ending) (v .records)) ≡ with-given toldOf (outcome s)
+told s e = sym (ap (λ (v : Survey). with-given toldOf (soundly (v .ending) (v .records))) e)
 
-full : SheetHolds (has (ff 4096) 0)
-full = counted (ff 4096) (erased-sheet 4096 (omega arith))
+full : SheetHolds (has (ff 4096) None 0)
+full = told (ff 4096) (erased-sheet 4096 (omega arith))
 
 too-long : SheetHolds (refused-at (ff 4097) 1 0)
-too-long = (refusal.TooLong, refl, counted (ff 4097) (survey-long (ff 4097) (omega (arith, length-replicate {A = ℕ} 4097 erased))))
+too-long = (refusal.TooLong, refl, told (ff 4097) (survey-long true (ff 4097) (omega (arith, length-replicate {A = ℕ} 4097 erased))))
 
 -- ---- the report of 01's sheet
 
@@ -64,14 +68,14 @@ abbrev line : Verdict
 line = pre (point 1 0) (w (point 1 0) (point 0 0) (point 0 0)) (pos 1) (q (pos 1) (pos 0) (pos 0) (pos 0) (pos 0))
 
 sample-reported : SheetHolds (reported sample sampleText)
-unfolding survey surveyFrom stepOf erasedStep erasedEnd kindIn sizedStep named words pointsIn allWithin coordinates signedOf digitsOf if_then_else_
+unfolding surveyOf surveyFrom stepOf erasedStep erasedEnd kindIn mayStand sizedStep named words pointsIn allWithin coordinates signedOf digitsOf if_then_else_
 sample-reported = (
   _,
   (
     _,
     _,
-    (_, _, refl, record { curve = straight; verdict = line; reads = refl; recognised = table-holds .0 .recognised; is = refl }, refl),
-    record { curve = minusOnes; verdict = verdict.Still; reads = refl; recognised = minusOnes-recognised; is = refl },
+    (_, _, refl, record { curve = straight; verdict = line; has = refl; recognised = table-holds .0 .recognised; is = refl }, refl),
+    record { curve = minusOnes; verdict = verdict.Still; has = refl; recognised = minusOnes-recognised; is = refl },
     refl,
   ),
   refl,
@@ -79,16 +83,27 @@ sample-reported = (
 
 -- ---- all of them
 
+not-done : {A : Type 0} {f : Fault} → change.Refused f ≡ change.Done → A
+not-done e = let z : _≡_ {A = ℕ} 0 1 = cc in absurd (omega arith)
+
 infixr 4 _and_
 _and_ : {A B : Type 0} → A → B → A × B
 a and b = (a, b)
 
 pub sheets-hold : AllHold sheets
-unfolding survey surveyFrom stepOf erasedStep erasedEnd kindIn sizedStep named words allWithin coordinates signedOf digitsOf if_then_else_
+unfolding surveyOf surveyFrom stepOf erasedStep erasedEnd kindIn mayStand sizedStep named words allWithin coordinates signedOf starting appending puttingAt digitsOf if_then_else_
 sheets-hold =
     refl and full and too-long
+    and refl and refl
+    and (refusal.Kind, refl, refl) and (refusal.Kind, refl, refl) and (refusal.Leftover, refl, refl)
+    and (refusal.Length, refl, refl) and (refusal.Cut, refl, refl)
     and refl and (refusal.Cut, refl, refl) and (refusal.Cut, refl, refl) and (refusal.Cut, refl, refl)
     and (refusal.Leftover, refl, refl)
     and (refusal.Kind, refl, refl) and (refusal.Length, refl, refl)
     and refl and (refusal.Range, refl, refl)
-    and sample-reported and refl and tt
+    and record { says = refl; leaves = refl } and (refusal.Room, refl, record { says = refl; leaves = refl })
+    and (refusal.NoMission, refl, record { changes = record { says = refl; leaves = refl }; lists = not-done })
+    and (refusal.Range, refl, record { changes = record { says = refl; leaves = refl }; lists = not-done })
+    and (refusal.Room, refl, record { changes = record { says = refl; leaves = refl }; lists = not-done })
+    and (refusal.OtherMission, refl, refl) and (refusal.Number, refl, refl) and (refusal.Number, refl, refl)
+    and sample-reported and (_, refl, refl) and (_, refl, refl) and refl and tt

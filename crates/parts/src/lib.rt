@@ -34,6 +34,7 @@ pub fn start() -> State
     State {
         ended: 0,
         count: 0,
+        mission: 0,
         curves: 0,
         place: 0,
         erased: 0,
@@ -77,6 +78,7 @@ pub fn end(state: State) -> State
     State {
         ended: 1,
         count: state.count,
+        mission: state.mission,
         curves: state.curves,
         place: state.place,
         erased: state.erased,

@@ -39,10 +39,11 @@ module _ (before : List ℤ) (st : State) (r : Reached st) where
   state-back =
       let s = seven-words (st .words) (small .seven) in
       let w = all-seven in
-      ap (λ (ws : List ℕ). stateIn (map signed (st .ended ∷ st .count ∷ st .curves ∷ st .place ∷ st .erased ∷ ws) ++ drop 12 before)) s
+      ap (λ (ws : List ℕ). stateIn (map signed (st .ended ∷ st .count ∷ st .mission ∷ st .curves ∷ st .place ∷ st .erased ∷ ws) ++ drop 13 before)) s
       ∙ (λ i. record {
         ended = sign-back (st .ended) (omega (arith, reached-possible st r .flag)) i;
         count = sign-back (st .count) (omega (arith, small .count)) i;
+        mission = sign-back (st .mission) (omega (arith, small .mission)) i;
         curves = sign-back (st .curves) (omega (arith, small .curves)) i;
         place = sign-back (st .place) (omega (arith, small .place)) i;
         erased = sign-back (st .erased) (omega (arith, small .erased)) i;
@@ -56,4 +57,4 @@ module _ (before : List ℤ) (st : State) (r : Reached st) where
             ∷ sign-back (word 6) (w .1 .1 .1 .1 .1 .1 .0) i
             ∷ [];
       })
-      ∙ (λ i. record { ended = st .ended; count = st .count; curves = st .curves; place = st .place; erased = st .erased; words = sym s i })
+      ∙ (λ i. record { ended = st .ended; count = st .count; mission = st .mission; curves = st .curves; place = st .place; erased = st .erased; words = sym s i })

@@ -23,7 +23,7 @@ pub countable : (st : State) (t : Told) → Asks st t → Countable t
 countable st _ (checked s x h c) = by x c
   where
     by : (x : Checked) → Checks s x → Countable (told.Sheet x)
-    by (checking.Curves n) c = check-few s n c
+    by (checking.Sheet m n) c = check-few s m n c
     by (checking.Refused f) c = tt
 countable st _ (not-ended s h) = tt
 countable st _ (asks-none h) = tt

@@ -13,7 +13,7 @@ use Rattle.refusal.specs.Answers.{if_then_else_}
 use Rattle.states.specs.declared.State.{State}
 
 abbrev pub stateNumbers : ℕ
-stateNumbers = 12
+stateNumbers = 13
 
 -- of a number below 0 it is 2^64 more
 abbrev pub unsigned : ℤ → ℕ
@@ -30,11 +30,12 @@ abbrev pub stateIn : List ℤ → State
 stateIn area = record {
   ended = numberAt area 0;
   count = numberAt area 1;
-  curves = numberAt area 2;
-  place = numberAt area 3;
-  erased = numberAt area 4;
-  words = map (numberAt area) (5 ∷ 6 ∷ 7 ∷ 8 ∷ 9 ∷ 10 ∷ 11 ∷ []);
+  mission = numberAt area 2;
+  curves = numberAt area 3;
+  place = numberAt area 4;
+  erased = numberAt area 5;
+  words = map (numberAt area) (6 ∷ 7 ∷ 8 ∷ 9 ∷ 10 ∷ 11 ∷ 12 ∷ []);
 }
 
 abbrev pub numbersIn : State → List ℤ
-numbersIn st = map signed (st .ended ∷ st .count ∷ st .curves ∷ st .place ∷ st .erased ∷ st .words)
+numbersIn st = map signed (st .ended ∷ st .count ∷ st .mission ∷ st .curves ∷ st .place ∷ st .erased ∷ st .words)

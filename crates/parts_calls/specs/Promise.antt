@@ -1,6 +1,7 @@
 -- What each call on a sheet by parts promises. r is what it returns; before and after are the lent area with the state, as it was and as it
 -- is left.
 --   notEnded       what is returned where the sheet has not ended: the least number
+--   countIn        how many curves `check` tells of
 --   changeCode, toldCode    what is returned for an answer of `feed`, and of `ask`
 --   left           the area with another state; what stands behind the state stays
 --   fedArea, endedArea      the area by the answer: a refusal changes nothing
@@ -13,7 +14,9 @@ use Prim.Native.Nat.{ℕ, _^_, _<_, _≤_}
 use lib.IntN.{ℤ, pos, negℤ}
 use lib.ListN.{length, drop}
 use Rattle.refusal.specs.declared.Refusal.the-variants as refusal
-use Rattle.refusal.specs.Answers.{refused, refuse}
+use Rattle.refusal.specs.Answers.{Answer, refused, refuse, with-given}
+use Rattle.sheet.specs.declared.Mission.{Mission}
+use Rattle.sheet.specs.declared.Checked.{Checked}
 use Rattle.sheet.specs.declared.Change.{Change}
 use Rattle.sheet.specs.declared.Change.the-variants as change
 use Rattle.sheet.specs.Promise.{answerOfChecked}
@@ -28,12 +31,15 @@ use Rattle.parts_calls.specs.Numbers.{stateNumbers, stateIn, numbersIn}
 abbrev pub notEnded : ℤ
 notEnded = negℤ (pos (2 ^ 63))
 
+abbrev pub countIn : Checked → Answer ℕ
+countIn x = with-given (λ (told : Mission × ℕ). told .1) (answerOfChecked x)
+
 abbrev pub changeCode : Change → ℤ
 changeCode change.Done = pos 0
 changeCode (change.Refused f) = coded (refused f)
 
 abbrev pub toldCode : Told → ℤ
-toldCode (told.Sheet x) = coded (answerOfChecked x)
+toldCode (told.Sheet x) = coded (countIn x)
 toldCode told.NotEnded = notEnded
 toldCode (told.Refused r) = coded (refuse r 0)
 

@@ -6,7 +6,7 @@ use Rattle.parts.specs.declared.Told.{Told}
 use Rattle.parts.specs.declared.Told.the-variants as told
 
 abbrev pub Countable : Told → Type 0
-Countable (told.Sheet (checked.Curves n)) = n ≤ 113
+Countable (told.Sheet (checked.Sheet m n)) = n ≤ 113
 Countable (told.Sheet (checked.Refused f)) = Unit {0}
 Countable told.NotEnded = Unit {0}
 Countable (told.Refused r) = Unit {0}

@@ -16,7 +16,7 @@ use states::State;
 use whole::size;
 
 // How many numbers a state has.
-const NUMBERS: usize = 12;
+const NUMBERS: usize = 13;
 
 // The same 64 bits without a sign: no cast does that without a proof that nothing is lost.
 fn unsigned(x: i64) -> u64
@@ -46,20 +46,21 @@ fn state_in(area: &[i64]) -> State
     ensures { λ r. ⌜ r ≡ stateIn (now (area .entry)) ⌝ }
 {
     let words = [
-        unsigned(area[5]),
         unsigned(area[6]),
         unsigned(area[7]),
         unsigned(area[8]),
         unsigned(area[9]),
         unsigned(area[10]),
         unsigned(area[11]),
+        unsigned(area[12]),
     ];
     State {
         ended: unsigned(area[0]) as usize,
         count: unsigned(area[1]) as usize,
-        curves: unsigned(area[2]) as usize,
-        place: unsigned(area[3]) as usize,
-        erased: unsigned(area[4]) as usize,
+        mission: unsigned(area[2]) as usize,
+        curves: unsigned(area[3]) as usize,
+        place: unsigned(area[4]) as usize,
+        erased: unsigned(area[5]) as usize,
         words,
     }
 }
@@ -72,6 +73,7 @@ fn put_state(area: &mut [i64], state: State)
     let numbers = [
         signed(state.ended as u64),
         signed(state.count as u64),
+        signed(state.mission as u64),
         signed(state.curves as u64),
         signed(state.place as u64),
         signed(state.erased as u64),
@@ -93,7 +95,7 @@ fn told_code(told: Told) -> i64
 {
     match told {
         Told::Sheet(checked) => match checked {
-            Checked::Curves(n) => n as i64,
+            Checked::Sheet { mission: _, curves } => curves as i64,
             Checked::Refused(f) => coded(f),
         },
         Told::NotEnded => i64::MIN,

@@ -22,7 +22,7 @@ use Rattle.curve.specs.Sizes.{coordinateReach}
 use Rattle.record.specs.Numbers.{wordAt, signedOf, coordinates, paired, bits, wordBytes, encoded}
 use Rattle.record.specs.declared.kinds.Kind.{Kind}
 use Rattle.record.specs.declared.kinds.Row.{Row}
-use Rattle.record.specs.Kinds.{rowOf, words, kindOf, numbersOf, formed, recordOf, pointsIn}
+use Rattle.record.specs.Kinds.{rowOf, words, kindOf, numbersOf, recordOf, pointsIn}
 use Rattle.record.specs.Records.{named, allWithin}
 use Rattle.refusal.specs.Answers.{if_then_else_}
 use Rattle.refusal.proofs.Answers.{both-true}

@@ -21,12 +21,12 @@ use Rattle.record.specs.declared.kinds.Kind.{Kind}
 use Rattle.record.specs.declared.kinds.Named.{Named}
 use Rattle.record.specs.declared.kinds.Named.the-variants as named-as
 use Rattle.record.specs.Kinds.{rowOf, longestRecord, kinds, words}
-use Rattle.record.specs.Records.{erased, erasedLength, erasedBytes, erasedEnd, erasedStep, kindIn, sizedStep, kindStep, stepOf}
+use Rattle.record.specs.Records.{erased, erasedLength, erasedBytes, erasedEnd, erasedStep, kindIn, mayStand, sizedStep, kindStep, stepOf}
 use Rattle.record.specs.declared.steps.Step.{Step}
 use Rattle.record.specs.declared.steps.Step.the-variants as step
 use Rattle.record.proofs.Table.{row-known, same-kind}
 use Rattle.record.proofs.Erased.{all-erased}
-use Rattle.record.proofs.Shown.{step-record, record-step, holds-same, ends-erased, coordinates-same}
+use Rattle.record.proofs.Shown.{step-record, step-may, record-step, holds-same, ends-erased, coordinates-same}
 
 -- ---- how many bytes FF come first
 
@@ -83,17 +83,17 @@ erased-whole : (n left : ℕ) → left ≤ n → erasedEnd n left ≡ step.Ends
 unfolding erasedEnd if_then_else_
 erased-whole n left l = rw (le-ltb n left l)
 
-own-step : (bytes : List ℕ) (x : Step) → stepOf bytes ≡ x → x ≡ stepBy (erasedBytes bytes) (length bytes) x
-own-step bytes step.Ends e = let q = all-erased bytes (ends-erased bytes e) in sym (erased-whole (erasedBytes bytes) (length bytes) (omega arith))
-own-step bytes (step.Fault r offset) e = refl
-own-step bytes (step.Record k) e = refl
+own-step : (first : Bool) (bytes : List ℕ) (x : Step) → stepOf first bytes ≡ x → x ≡ stepBy (erasedBytes bytes) (length bytes) x
+own-step first bytes step.Ends e = let q = all-erased bytes (ends-erased first bytes e) in sym (erased-whole (erasedBytes bytes) (length bytes) (omega arith))
+own-step first bytes (step.Fault r offset) e = refl
+own-step first bytes (step.Record k) e = refl
 
 -- ---- the step of more bytes than that
 
 -- the tests that are left of four bytes or more
-later : (s : List ℕ) → 4 ≤ length s → stepOf s ≡ (if eqb (sizeOf s) erasedLength then erasedStep s else kindStep s (kindIn kinds s))
+later : (first : Bool) (s : List ℕ) → 4 ≤ length s → stepOf first s ≡ (if eqb (sizeOf s) erasedLength then erasedStep s else kindStep first s (kindIn kinds s))
 unfolding stepOf if_then_else_
-later s l = rw (ne-eqb (length s) 0 (λ q. omega arith), ne-eqb (length s) 1 (λ q. omega arith), le-ltb (length s) 4 l)
+later first s l = rw (ne-eqb (length s) 0 (λ q. omega arith), ne-eqb (length s) 1 (λ q. omega arith), le-ltb (length s) 4 l)
 
 -- one test on both sides
 either : (f : Step → Step) (c : Bool) {x y x′ y′ : Step} → x ≡ f x′ → y ≡ f y′ → (if c then x else y) ≡ f (if c then x′ else y′)
@@ -109,7 +109,7 @@ sized-stays n left k s = by-test Stays _ (λ _. refl) (λ _. by-test Stays _ (λ
     Stays : Step → Type 0
     Stays x = x ≡ stepBy n left x
 
-module _ (bytes : List ℕ) (long : longestRecord < length bytes) where
+module _ (first : Bool) (bytes : List ℕ) (long : longestRecord < length bytes) where
   abbrev front : List ℕ
   front = take longestRecord bytes
 
@@ -133,8 +133,9 @@ module _ (bytes : List ℕ) (long : longestRecord < length bytes) where
         coordinates-same (words k) bytes front 4 4 (λ j l. same (4 + j) (omega (arith, known .short, known .holds))),
       )
 
-  kind-same : (x : Named) → kindStep bytes x ≡ stepBy (erasedBytes bytes) (length bytes) (kindStep front x)
-  kind-same (named-as.Kind k) = sized-stays (erasedBytes bytes) (length bytes) k bytes ∙ ap (stepBy (erasedBytes bytes) (length bytes)) (sym (sized-same k))
+  kind-same : (x : Named) → kindStep first bytes x ≡ stepBy (erasedBytes bytes) (length bytes) (kindStep first front x)
+  kind-same (named-as.Kind k) =
+      either (stepBy (erasedBytes bytes) (length bytes)) (mayStand first k) (sized-stays (erasedBytes bytes) (length bytes) k bytes ∙ ap (stepBy (erasedBytes bytes) (length bytes)) (sym (sized-same k))) refl
   kind-same named-as.Unknown = refl
 
   -- a byte that is not FF stands in the front, or the front tells nothing
@@ -148,34 +149,34 @@ module _ (bytes : List ℕ) (long : longestRecord < length bytes) where
       let q : erasedBytes front ≡ erasedBytes bytes = omega arith in
       rw (q, lt-ltb (erasedBytes bytes) (length front) (omega (arith, front-long)), lt-ltb (erasedBytes bytes) (length bytes) (omega arith)))
 
-  long-step : stepOf bytes ≡ stepBy (erasedBytes bytes) (length bytes) (stepOf front)
+  long-step : stepOf first bytes ≡ stepBy (erasedBytes bytes) (length bytes) (stepOf first front)
   long-step =
       let by = stepBy (erasedBytes bytes) (length bytes) in
       let test : eqb (sizeOf front) erasedLength ≡ eqb (sizeOf bytes) erasedLength = ap (λ (n : ℕ). eqb n erasedLength) size-same in
       let kind : kindIn kinds bytes ≡ kindIn kinds front = same-kind kinds bytes front (sym (same 2 (omega arith))) (sym (same 3 (omega arith))) in
-      later bytes (omega arith)
-      ∙ either by (eqb (sizeOf bytes) erasedLength) erased-same (kind-same (kindIn kinds bytes) ∙ ap (λ (x : Named). by (kindStep front x)) kind)
-      ∙ ap (λ (c : Bool). by (if c then erasedStep front else kindStep front (kindIn kinds front))) (sym test)
-      ∙ ap by (sym (later front (omega (arith, front-long))))
+      later first bytes (omega arith)
+      ∙ either by (eqb (sizeOf bytes) erasedLength) erased-same (kind-same (kindIn kinds bytes) ∙ ap (λ (x : Named). by (kindStep first front x)) kind)
+      ∙ ap (λ (c : Bool). by (if c then erasedStep front else kindStep first front (kindIn kinds front))) (sym test)
+      ∙ ap by (sym (later first front (omega (arith, front-long))))
 
-pub step-by-front : (bytes : List ℕ) → stepOf bytes ≡ stepBy (erasedBytes bytes) (length bytes) (stepOf (take longestRecord bytes))
-step-by-front bytes =
+pub step-by-front : (first : Bool) (bytes : List ℕ) → stepOf first bytes ≡ stepBy (erasedBytes bytes) (length bytes) (stepOf first (take longestRecord bytes))
+step-by-front first bytes =
     by-order (length bytes) longestRecord
-    (λ l. own-step bytes (stepOf bytes) refl ∙ ap (λ (s : List ℕ). stepBy (erasedBytes bytes) (length bytes) (stepOf s)) (sym (take-all longestRecord bytes l)))
-    (λ l. long-step bytes l)
+    (λ l. own-step first bytes (stepOf first bytes) refl ∙ ap (λ (s : List ℕ). stepBy (erasedBytes bytes) (length bytes) (stepOf first s)) (sym (take-all longestRecord bytes l)))
+    (λ l. long-step first bytes l)
 
 -- ---- records
 
-pub record-by-front : (bytes : List ℕ) (k : Kind) → stepOf (take longestRecord bytes) ≡ step.Record k → stepOf bytes ≡ step.Record k
-record-by-front bytes k e = step-by-front bytes ∙ ap (stepBy (erasedBytes bytes) (length bytes)) e
+pub record-by-front : (first : Bool) (bytes : List ℕ) (k : Kind) → stepOf first (take longestRecord bytes) ≡ step.Record k → stepOf first bytes ≡ step.Record k
+record-by-front first bytes k e = step-by-front first bytes ∙ ap (stepBy (erasedBytes bytes) (length bytes)) e
 
-pub record-within : (front more : List ℕ) (k : Kind) → stepOf (front ++ more) ≡ step.Record k → rowOf k .size ≤ length front → stepOf front ≡ step.Record k
-record-within front more k e l =
-    record-step k front
-    (holds-same k (front ++ more) front l (λ i m. sym (List·getD-append front more 0 i (omega arith))) (step-record (front ++ more) k e))
+pub record-within : (first : Bool) (front more : List ℕ) (k : Kind) → stepOf first (front ++ more) ≡ step.Record k → rowOf k .size ≤ length front → stepOf first front ≡ step.Record k
+record-within first front more k e l =
+    record-step first k front (step-may first (front ++ more) k e)
+    (holds-same k (front ++ more) front l (λ i m. sym (List·getD-append front more 0 i (omega arith))) (step-record first (front ++ more) k e))
 
-pub front-by-record : (bytes : List ℕ) (k : Kind) → stepOf bytes ≡ step.Record k → stepOf (take longestRecord bytes) ≡ step.Record k
-front-by-record bytes k e =
-    let fits = step-record bytes k e .fits in
-    record-within (take longestRecord bytes) (drop longestRecord bytes) k (ap stepOf (take-append-drop longestRecord bytes) ∙ e)
+pub front-by-record : (first : Bool) (bytes : List ℕ) (k : Kind) → stepOf first bytes ≡ step.Record k → stepOf first (take longestRecord bytes) ≡ step.Record k
+front-by-record first bytes k e =
+    let fits = step-record first bytes k e .fits in
+    record-within first (take longestRecord bytes) (drop longestRecord bytes) k (ap (stepOf first) (take-append-drop longestRecord bytes) ∙ e)
     (omega (arith, length-take longestRecord bytes, row-known k .short))

@@ -3,7 +3,7 @@
 --   headed-step     and the tests of the length and the kind are passed
 --   head-made       where that length and that name stand, so does the head
 use mathlib.Core.Path.{_≡_, refl, sym, ap, _∙_}
-use mathlib.Core.Bool.{true}
+use mathlib.Core.Bool.{Bool, true}
 use mathlib.Core.List.{List, [], _∷_}
 use Prim.Native.Nat.{ℕ, _/_, _%_, _≤_, _<_}
 use native.Mathlib.Omega.{arith}
@@ -17,7 +17,7 @@ use Rattle.refusal.proofs.Answers.{both-true}
 use Rattle.record.specs.declared.kinds.Kind.{Kind}
 use Rattle.record.specs.Numbers.{sizeOf, wordBytes}
 use Rattle.record.specs.Kinds.{rowOf}
-use Rattle.record.specs.Records.{erasedLength, named, sizedStep, stepOf}
+use Rattle.record.specs.Records.{erasedLength, named, mayStand, sizedStep, stepOf}
 use Rattle.record.specs.Steps.{Headed}
 use Rattle.record.proofs.Table.{row-known, same-name, known-kind, own-name, headOf, head-formed}
 use Rattle.record.proofs.Words.{word-bytes}
@@ -35,9 +35,9 @@ module _ (k : Kind) (s : List ℕ) (bytes : (i : ℕ) → Fits w8 (getD s i 0)) 
   pub head-name : named k s ≡ true
   head-name = same-name k s (headOf (rowOf k)) (ap (λ (l : List ℕ). getD l 2 0) four) (ap (λ (l : List ℕ). getD l 3 0) four) ∙ own-name k (rowOf k .size % 256) (rowOf k .size / 256) []
 
-  pub headed-step : stepOf s ≡ sizedStep k s
+  pub headed-step : (first : Bool) → mayStand first k ≡ true → stepOf first s ≡ sizedStep k s
   unfolding stepOf if_then_else_
-  headed-step =
+  headed-step first m =
       let l = h .long in
       let w : sizeOf s < erasedLength = omega (arith, head-size, row-known k .short) in
       rw (
@@ -46,6 +46,7 @@ module _ (k : Kind) (s : List ℕ) (bytes : (i : ℕ) → Fits w8 (getD s i 0)) 
         ne-eqb (sizeOf s) erasedLength (λ q. omega arith),
         le-ltb (length s) 4 l,
         known-kind k s head-name,
+        m,
       )
 
 pub head-made : (k : Kind) (s : List ℕ) → 4 ≤ length s → sizeOf s ≡ rowOf k .size → named k s ≡ true → Headed k s

@@ -2,7 +2,7 @@
 --   Kept        as many bytes as before, and every byte outside some places is the old one, by position
 --   kept-all    where nothing is changed
 --   put-kept    whatever the promise of a curve's record allows keeps every byte but the record's own
-use mathlib.Core.Path.{_≡_, refl, sym, ap, _∙_, subst}
+use mathlib.Core.Path.{_≡_, sym, ap, _∙_}
 use mathlib.Core.Logic.{_⊎_, ⊎-elim}
 use mathlib.Core.List.{List}
 use Prim.Native.Nat.{ℕ, _+_, _≤_, _<_}

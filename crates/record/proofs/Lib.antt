@@ -9,6 +9,7 @@ pub mod Erased
 pub mod Shown
 pub mod Front
 pub mod Formed
+pub mod Headers
 pub mod Putting
 pub mod Kept
 pub mod Once

@@ -13,7 +13,7 @@ use Rattle.record.specs.declared.points.Held.the-variants as held
 use Rattle.record.specs.declared.writes.Put.{Put}
 use Rattle.record.specs.declared.writes.Put.the-variants as put
 use Rattle.record.specs.Kinds.{rowOf, pointsIn}
-use Rattle.record.specs.Promise.{BeginsRecord, IsHeld, answerOfPut, PutsAt}
+use Rattle.record.specs.Promise.{BeginsCurve, IsHeld, answerOfPut, PutsAt}
 
 put-same : (t : List ℕ) (r q : Put) → answerOfPut t r ≡ answerOfPut t q → r ≡ q
 put-same t put.Done put.Done e = refl
@@ -26,7 +26,7 @@ put-once s at k xs t u r q g h =
     let e = g .leaves ∙ sym (h .leaves) in
     (put-same t r q (g .says ∙ sym (h .says) ∙ ap (λ (x : List ℕ). answerOfPut x q) (sym e)), e)
 
-begins-once : (rest : List ℕ) (k l : Kind) → BeginsRecord rest k → BeginsRecord rest l → k ≡ l
+begins-once : (rest : List ℕ) (k l : Kind) → BeginsCurve rest k → BeginsCurve rest l → k ≡ l
 begins-once rest k l b c = cc (sym (b .name) ∙ c .name)
 
 pub held-once : (rest : List ℕ) (x y : Held) → IsHeld rest x → IsHeld rest y → x ≡ y

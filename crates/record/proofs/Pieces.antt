@@ -6,12 +6,12 @@
 --   words-none, words-more, words-all   the numbers of a record, written one after another
 use mathlib.Core.Path.{_≡_, refl, sym, ap, _∙_}
 use mathlib.Core.List.{List, [], _∷_, _++_, append-assoc, append-nil}
-use Prim.Native.Nat.{ℕ, _+_, _-_, _*_, _/_, _%_, _≤_, _<_}
+use Prim.Native.Nat.{ℕ, _+_, _-_, _*_, _≤_, _<_}
 use native.Mathlib.Omega.{arith}
 use native.Mathlib.Numerals.{add-one, add-two, add-three}
 use lib.IntN.{ℤ, pos}
-use lib.ListN.{length, take, drop, set, getD, replicate, length-append, length-drop, drop-of-length-le, take-append-drop, List·getD-append}
-use lib.Seq.{sets-eq, drop-length, take-suc, take-length, length-take-le, take-at, drop-drop, drop-append-add, getD-take, getD-drop, getD-append-add}
+use lib.ListN.{length, take, drop, set, getD, length-append, length-drop, drop-of-length-le, take-append-drop, List·getD-append}
+use lib.Seq.{sets-eq, take-suc, take-length, length-take-le, take-at, drop-drop, drop-append-add, getD-take, getD-drop, getD-append-add}
 use Rattle.record.specs.Numbers.{bits, wordBytes, encoded, written}
 
 -- ---- a piece

@@ -1,7 +1,8 @@
 -- What a step shows of the bytes at its place, and the bytes that make it.
 --   Holds         a record of a kind stands at the start of the bytes
---   Shown         what a step says of the bytes: all erased, a fault with its place, or a record
+--   Shown         what a step says of the bytes: all erased, a fault with its place, or a record of a kind that may stand there
 --   step-record, record-step   a step that is a record has one before it, and the other way.      holds-same   by the bytes of a record alone
+--   step-may      and its kind may stand there
 --   fault-near    a fault's place lies within the bytes
 --   fault-placed  LEFTOVER stands at the first byte that is not FF, every other fault at the record's first byte
 --   erased-ends   such bytes end the sheet.             ends-erased   bytes that end the sheet are such
@@ -9,11 +10,10 @@
 --   Whole         a list that is a record of a kind and nothing more
 --   whole-step    whatever stands behind it, its step is the record.     step-whole   the bytes that a step passes are such a list
 use mathlib.Core.Path.{_≡_, refl, sym, ap, _∙_, subst}
-use mathlib.Core.Bool.{true, false}
+use mathlib.Core.Bool.{Bool, true}
 use mathlib.Core.List.{List, _++_, map}
 use Prim.Native.Nat.{ℕ, _+_, _*_, _≤_, _<_}
 use native.Mathlib.Omega.{arith}
-use lib.Dec.{eqb}
 use lib.ListN.{length, getD, take, length-append, List·getD-append}
 use lib.Seq.{length-take-le, getD-take}
 use borrow.Author.Tests.{eqb-true, eqb-false, ltb-true, ltb-false, eq-eqb, ne-eqb, le-ltb, not-false}
@@ -26,7 +26,7 @@ use Rattle.record.specs.declared.kinds.Kind.{Kind}
 use Rattle.record.specs.declared.kinds.Named.{Named}
 use Rattle.record.specs.declared.kinds.Named.the-variants as named-as
 use Rattle.record.specs.Kinds.{rowOf, kinds, words}
-use Rattle.record.specs.Records.{erased, erasedLength, erasedBytes, erasedEnd, erasedStep, named, kindIn, allWithin, sizedStep, kindStep, stepOf}
+use Rattle.record.specs.Records.{erased, erasedLength, erasedBytes, erasedEnd, erasedStep, named, kindIn, mayStand, allWithin, sizedStep, kindStep, stepOf}
 use Rattle.record.specs.declared.steps.Step.{Step}
 use Rattle.record.specs.declared.steps.Step.the-variants as step
 use Rattle.refusal.proofs.Answers.{by-test}
@@ -40,77 +40,80 @@ pub record Holds (k : Kind) (bytes : List ℕ) : Type 0 where
   pub name-is : named k bytes ≡ true
   pub range : allWithin (coordinates (words k) bytes 4) ≡ true
 
-pub data Shown (bytes : List ℕ) : Step → Type 0 where
-  ends : AllErased bytes → Shown bytes step.Ends
-  leftover : {offset : ℕ} → FirstLeft bytes 0 offset → Shown bytes (step.Fault refusal.Leftover offset)
-  faults : {r : Refusal} → (numberOf r ≡ numberOf refusal.Leftover → ⊥) → Shown bytes (step.Fault r 0)
-  holds : {k : Kind} → Holds k bytes → Shown bytes (step.Record k)
+pub data Shown (first : Bool) (bytes : List ℕ) : Step → Type 0 where
+  ends : AllErased bytes → Shown first bytes step.Ends
+  leftover : {offset : ℕ} → FirstLeft bytes 0 offset → Shown first bytes (step.Fault refusal.Leftover offset)
+  faults : {r : Refusal} → (numberOf r ≡ numberOf refusal.Leftover → ⊥) → Shown first bytes (step.Fault r 0)
+  holds : {k : Kind} → mayStand first k ≡ true → Holds k bytes → Shown first bytes (step.Record k)
 
 -- ---- from the step to the bytes
 
-module _ (bytes : List ℕ) where
-  sized-shown : (k : Kind) → named k bytes ≡ true → Shown bytes (sizedStep k bytes)
+module _ (first : Bool) (bytes : List ℕ) where
+  sized-shown : (k : Kind) → mayStand first k ≡ true → named k bytes ≡ true → Shown first bytes (sizedStep k bytes)
   unfolding sizedStep
-  sized-shown k n =
-      by-test (Shown bytes) _ (λ _. faults (λ q. omega arith)) (λ s.
-      by-test (Shown bytes) _ (λ _. faults (λ q. omega arith)) (λ l.
-      by-test (Shown bytes) _ (λ _. faults (λ q. omega arith)) (λ v.
-      holds (record { fits = ltb-false _ _ l; size-is = eqb-true _ _ (not-false _ s); name-is = n; range = not-false _ v }))))
+  sized-shown k m n =
+      by-test (Shown first bytes) _ (λ _. faults (λ q. omega arith)) (λ s.
+      by-test (Shown first bytes) _ (λ _. faults (λ q. omega arith)) (λ l.
+      by-test (Shown first bytes) _ (λ _. faults (λ q. omega arith)) (λ v.
+      holds m (record { fits = ltb-false _ _ l; size-is = eqb-true _ _ (not-false _ s); name-is = n; range = not-false _ v }))))
 
-  kind-shown : (x : Named) → kindIn kinds bytes ≡ x → Shown bytes (kindStep bytes x)
-  kind-shown (named-as.Kind k) e = sized-shown k (named-is kinds bytes k e)
+  kind-shown : (x : Named) → kindIn kinds bytes ≡ x → Shown first bytes (kindStep first bytes x)
+  kind-shown (named-as.Kind k) e = by-test (Shown first bytes) _ (λ m. sized-shown k m (named-is kinds bytes k e)) (λ _. faults {r = refusal.Kind} (λ q. omega arith))
   kind-shown named-as.Unknown e = faults {r = refusal.Kind} (λ q. omega arith)
 
-  erased-shown : Shown bytes (erasedStep bytes)
+  erased-shown : Shown first bytes (erasedStep bytes)
   unfolding erasedStep erasedEnd
-  erased-shown = by-test (Shown bytes) _ (λ e. leftover (first-left bytes (ltb-true _ _ e))) (λ e. let l : length bytes ≤ erasedBytes bytes = ltb-false _ _ e in ends (λ i h. erased-at bytes i (omega arith)))
+  erased-shown = by-test (Shown first bytes) _ (λ e. leftover (first-left bytes (ltb-true _ _ e))) (λ e. let l : length bytes ≤ erasedBytes bytes = ltb-false _ _ e in ends (λ i h. erased-at bytes i (omega arith)))
 
-  shown : Shown bytes (stepOf bytes)
+  shown : Shown first bytes (stepOf first bytes)
   unfolding stepOf
   shown =
-      by-test (Shown bytes) _ (λ e. let z : length bytes ≡ 0 = eqb-true _ _ e in ends (λ i h. absurd (omega arith))) (λ _.
-      by-test (Shown bytes) _
+      by-test (Shown first bytes) _ (λ e. let z : length bytes ≡ 0 = eqb-true _ _ e in ends (λ i h. absurd (omega arith))) (λ _.
+      by-test (Shown first bytes) _
       (λ o.
       let q : length bytes ≡ 1 = eqb-true _ _ o in
-      by-test (Shown bytes) _ (λ f. ends (λ i h. let z : i ≡ 0 = omega arith in rw z (eqb-true _ _ f))) (λ _. faults (λ q. omega arith)))
+      by-test (Shown first bytes) _ (λ f. ends (λ i h. let z : i ≡ 0 = omega arith in rw z (eqb-true _ _ f))) (λ _. faults (λ q. omega arith)))
       (λ _.
-      by-test (Shown bytes) _ (λ _. erased-shown) (λ _.
-      by-test (Shown bytes) _ (λ _. faults (λ q. omega arith)) (λ _. kind-shown (kindIn kinds bytes) refl))))
+      by-test (Shown first bytes) _ (λ _. erased-shown) (λ _.
+      by-test (Shown first bytes) _ (λ _. faults (λ q. omega arith)) (λ _. kind-shown (kindIn kinds bytes) refl))))
 
-held-in : {bytes : List ℕ} {k : Kind} → Shown bytes (step.Record k) → Holds k bytes
-held-in (holds h) = h
+held-in : {first : Bool} {bytes : List ℕ} {k : Kind} → Shown first bytes (step.Record k) → (mayStand first k ≡ true) × Holds k bytes
+held-in (holds m h) = (m, h)
 
-pub step-record : (bytes : List ℕ) (k : Kind) → stepOf bytes ≡ step.Record k → Holds k bytes
-step-record bytes k e = held-in (subst (Shown bytes) e (shown bytes))
+pub step-record : (first : Bool) (bytes : List ℕ) (k : Kind) → stepOf first bytes ≡ step.Record k → Holds k bytes
+step-record first bytes k e = held-in (subst (Shown first bytes) e (shown first bytes)) .1
 
-erased-in : {bytes : List ℕ} → Shown bytes step.Ends → AllErased bytes
+pub step-may : (first : Bool) (bytes : List ℕ) (k : Kind) → stepOf first bytes ≡ step.Record k → mayStand first k ≡ true
+step-may first bytes k e = held-in (subst (Shown first bytes) e (shown first bytes)) .0
+
+erased-in : {first : Bool} {bytes : List ℕ} → Shown first bytes step.Ends → AllErased bytes
 erased-in (ends f) = f
 
-pub ends-erased : (bytes : List ℕ) → stepOf bytes ≡ step.Ends → AllErased bytes
-ends-erased bytes e = erased-in (subst (Shown bytes) e (shown bytes))
+pub ends-erased : (first : Bool) (bytes : List ℕ) → stepOf first bytes ≡ step.Ends → AllErased bytes
+ends-erased first bytes e = erased-in (subst (Shown first bytes) e (shown first bytes))
 
-near-in : {bytes : List ℕ} {r : Refusal} {offset : ℕ} → Shown bytes (step.Fault r offset) → offset ≤ length bytes
+near-in : {first : Bool} {bytes : List ℕ} {r : Refusal} {offset : ℕ} → Shown first bytes (step.Fault r offset) → offset ≤ length bytes
 near-in (leftover f) = omega (arith, f .inside)
 near-in (faults n) = omega arith
 
-pub fault-near : (bytes : List ℕ) (r : Refusal) (offset : ℕ) → stepOf bytes ≡ step.Fault r offset → offset ≤ length bytes
-fault-near bytes r offset e = near-in (subst (Shown bytes) e (shown bytes))
+pub fault-near : (first : Bool) (bytes : List ℕ) (r : Refusal) (offset : ℕ) → stepOf first bytes ≡ step.Fault r offset → offset ≤ length bytes
+fault-near first bytes r offset e = near-in (subst (Shown first bytes) e (shown first bytes))
 
 -- where a fault stands: LEFTOVER at the first byte that is not FF, every other at the record's first byte
-placed-in : {bytes : List ℕ} {r : Refusal} {offset : ℕ} → Shown bytes (step.Fault r offset) →
+placed-in : {first : Bool} {bytes : List ℕ} {r : Refusal} {offset : ℕ} → Shown first bytes (step.Fault r offset) →
     (r ≡ refusal.Leftover → FirstLeft bytes 0 offset) × ((r ≡ refusal.Leftover → ⊥) → offset ≡ 0)
 placed-in (leftover f) = (λ _. f, λ n. absurd (n refl))
 placed-in (faults n) = (λ q. absurd (n (ap numberOf q)), λ _. refl)
 
-pub fault-placed : (bytes : List ℕ) (r : Refusal) (offset : ℕ) → stepOf bytes ≡ step.Fault r offset →
+pub fault-placed : (first : Bool) (bytes : List ℕ) (r : Refusal) (offset : ℕ) → stepOf first bytes ≡ step.Fault r offset →
     (r ≡ refusal.Leftover → FirstLeft bytes 0 offset) × ((r ≡ refusal.Leftover → ⊥) → offset ≡ 0)
-fault-placed bytes r offset e = placed-in (subst (Shown bytes) e (shown bytes))
+fault-placed first bytes r offset e = placed-in (subst (Shown first bytes) e (shown first bytes))
 
 -- ---- from the bytes to the step
 
-pub record-step : (k : Kind) (bytes : List ℕ) → Holds k bytes → stepOf bytes ≡ step.Record k
+pub record-step : (first : Bool) (k : Kind) (bytes : List ℕ) → mayStand first k ≡ true → Holds k bytes → stepOf first bytes ≡ step.Record k
 unfolding stepOf sizedStep if_then_else_
-record-step k bytes h =
+record-step first k bytes m h =
     let z = row-known k in
     let l : 4 < length bytes = omega (arith, h .fits, z .long) in
     let w : sizeOf bytes < erasedLength = omega (arith, h .size-is, z .short) in
@@ -120,14 +123,15 @@ record-step k bytes h =
       ne-eqb (sizeOf bytes) erasedLength (λ q. omega arith),
       le-ltb (length bytes) 4 (omega arith),
       known-kind k bytes (h .name-is),
+      m,
       eq-eqb (sizeOf bytes) (rowOf k .size) (h .size-is),
       le-ltb (length bytes) (rowOf k .size) (h .fits),
       h .range,
     )
 
-pub erased-ends : (bytes : List ℕ) → AllErased bytes → stepOf bytes ≡ step.Ends
+pub erased-ends : (first : Bool) (bytes : List ℕ) → AllErased bytes → stepOf first bytes ≡ step.Ends
 unfolding stepOf erasedStep erasedEnd
-erased-ends bytes f =
+erased-ends first bytes f =
     by-test Is _ (λ _. refl) (λ z.
     let n : length bytes ≡ 0 → ⊥ = eqb-false _ _ z in
     let b0 : getD bytes 0 0 ≡ erased = f 0 (omega arith) in
@@ -166,14 +170,14 @@ pub record Whole (k : Kind) (x : List ℕ) : Type 0 where
   pub long : length x ≡ rowOf k .size
   pub here : Holds k x
 
-pub whole-step : {k : Kind} {x : List ℕ} → Whole k x → (t : List ℕ) → stepOf (x ++ t) ≡ step.Record k
-whole-step {k} {x} w t =
-    record-step k (x ++ t)
+pub whole-step : (first : Bool) {k : Kind} {x : List ℕ} → mayStand first k ≡ true → Whole k x → (t : List ℕ) → stepOf first (x ++ t) ≡ step.Record k
+whole-step first {k} {x} m w t =
+    record-step first k (x ++ t) m
     (holds-same k x (x ++ t) (omega (arith, length-append x t, w .long)) (λ i m. List·getD-append x t 0 i (omega (arith, w .long))) (w .here))
 
-pub step-whole : (bytes : List ℕ) (k : Kind) → stepOf bytes ≡ step.Record k → Whole k (take (rowOf k .size) bytes) × (4 < rowOf k .size) × (rowOf k .size ≤ length bytes)
-step-whole bytes k e =
-    let h = step-record bytes k e in
+pub step-whole : (first : Bool) (bytes : List ℕ) (k : Kind) → stepOf first bytes ≡ step.Record k → Whole k (take (rowOf k .size) bytes) × (4 < rowOf k .size) × (rowOf k .size ≤ length bytes)
+step-whole first bytes k e =
+    let h = step-record first bytes k e in
     let l = h .fits in
     let long : length (take (rowOf k .size) bytes) ≡ rowOf k .size = length-take-le (rowOf k .size) bytes l in (
       record { long = long; here = holds-same k bytes (take (rowOf k .size) bytes) (omega arith) (λ i m. getD-take (rowOf k .size) bytes i 0 m) h },

@@ -6,7 +6,7 @@
 --   own-name         a record with a kind's name is named so
 --   headOf, head-of-row, head-formed   the head of a record, by the four bytes of its row.      head-body   what stands behind it
 use mathlib.Core.Path.{_≡_, refl, ap, _∙_, sym}
-use mathlib.Core.Bool.{true}
+use mathlib.Core.Bool.{true, false≢true}
 use mathlib.Core.List.{List, [], _∷_, _++_, append-nil}
 use Prim.Native.Nat.{ℕ, _+_, _*_, _/_, _%_, _≤_, _<_}
 use native.Mathlib.Omega.{arith}
@@ -17,7 +17,7 @@ use lib.Dec.{eqb}
 use Rattle.refusal.specs.Answers.{if_then_else_}
 use Rattle.refusal.proofs.Answers.{by-test, both-true}
 use Rattle.record.specs.declared.kinds.Kind.{Kind}
-use Rattle.record.specs.declared.kinds.Kind.the-variants.{Cubic, Quintic}
+use Rattle.record.specs.declared.kinds.Kind.the-variants.{Header, Cubic, Quintic}
 use Rattle.record.specs.declared.kinds.Named.{Named}
 use Rattle.record.specs.declared.kinds.Named.the-variants as named-as
 use Rattle.record.specs.declared.kinds.Row.{Row}
@@ -43,6 +43,7 @@ pub record RowKnown (k : Kind) : Type 0 where
 
 pub row-known : (k : Kind) → RowKnown k
 unfolding kindIn named words if_then_else_
+row-known Header = record { two = refl; found = refl; name-bytes = (omega arith, (omega arith, tt)); head-is = refl; long = omega arith; short = omega arith; holds = omega arith; curve-long = λ e. absurd (false≢true e); curve-holds = λ e. absurd (false≢true e) }
 row-known Cubic = record { two = refl; found = refl; name-bytes = (omega arith, (omega arith, tt)); head-is = refl; long = omega arith; short = omega arith; holds = omega arith; curve-long = λ _. omega arith; curve-holds = λ _. refl }
 row-known Quintic = record { two = refl; found = refl; name-bytes = (omega arith, (omega arith, tt)); head-is = refl; long = omega arith; short = omega arith; holds = omega arith; curve-long = λ _. omega arith; curve-holds = λ _. refl }
 

@@ -1,11 +1,12 @@
 -- Numbers in a sheet's bytes, the lowest byte first.
 --   halfAt       two bytes as a number.      sizeOf   the length that a record says it has
+--   missionIn    the number that a header's bytes hold, behind its kind
 --   wordAt       four bytes as a number below 2^32
 --   signedOf     such a number read as a signed one
 --   coordinates  so many signed numbers, from a place on
 --   paired       numbers taken two by two: x then y
 --   bits         a signed number as one below 2^32
---   wordBytes    the four bytes of such a number
+--   wordBytes    the four bytes of such a number.      halfBytes   the two bytes of a number below 2^16
 --   encoded      signed numbers as bytes, four each
 --   written      bytes over a list, from a place on
 --   wordsIn      so many words, from a place on; beyond the last byte stands 0
@@ -25,6 +26,9 @@ halfAt bytes at = getD bytes at 0 + 256 * getD bytes (at + 1) 0
 
 abbrev pub sizeOf : List ℕ → ℕ
 sizeOf bytes = halfAt bytes 0
+
+abbrev pub missionIn : List ℕ → ℕ
+missionIn bytes = halfAt bytes 4
 
 abbrev pub wordAt : List ℕ → ℕ → ℕ
 wordAt bytes at = getD bytes at 0 + 256 * getD bytes (at + 1) 0 + 65536 * getD bytes (at + 2) 0 + 16777216 * getD bytes (at + 3) 0
@@ -48,6 +52,9 @@ bits (negsuc n) = 4294967296 - suc n
 
 abbrev pub wordBytes : ℕ → List ℕ
 wordBytes w = w % 256 ∷ w / 256 % 256 ∷ w / 65536 % 256 ∷ w / 16777216 % 256 ∷ []
+
+abbrev pub halfBytes : ℕ → List ℕ
+halfBytes m = m % 256 ∷ m / 256 ∷ []
 
 abbrev pub encoded : List ℤ → List ℕ
 encoded [] = []

@@ -1,5 +1,5 @@
 -- What the calls on a curve's record promise.
---   BeginsRecord        some bytes begin with a kind's name, and are long enough
+--   BeginsCurve         some bytes begin with the name of a kind of curve, and are long enough
 --   IsHeld              the curve whose record some bytes begin with, by its kind's name; or that they begin with none
 --   puttingAt           the bytes that are to be left where a record is written at a place
 --   answerOfPut, bytesAfter, PutsAt    what is said and left: a refusal changes nothing
@@ -24,15 +24,16 @@ use Rattle.record.specs.Numbers.{encoded, written}
 use Rattle.record.specs.Kinds.{rowOf, kinds, formed, pointsIn}
 use Rattle.record.specs.Records.{kindIn, allWithin}
 
--- the bytes begin with a kind's name, behind a length, and are long enough for a record of it
-pub record BeginsRecord (rest : List ℕ) (k : Kind) : Type 0 where
+-- the bytes begin with the name of a kind of curve, behind a length, and are long enough for a record of it
+pub record BeginsCurve (rest : List ℕ) (k : Kind) : Type 0 where
   pub long : 4 ≤ length rest
   pub name : kindIn kinds rest ≡ named-as.Kind k
+  pub curve : rowOf k .curve ≡ true
   pub fits : rowOf k .size ≤ length rest
 
 abbrev pub IsHeld : List ℕ → Held → Type 0
-IsHeld rest (held.Curve c size) = (k : Kind) × BeginsRecord rest k × (size ≡ rowOf k .size) × (pointsOf c ≡ pointsIn (take size rest))
-IsHeld rest held.None = (k : Kind) → BeginsRecord rest k → ⊥
+IsHeld rest (held.Curve c size) = (k : Kind) × BeginsCurve rest k × (size ≡ rowOf k .size) × (pointsOf c ≡ pointsIn (take size rest))
+IsHeld rest held.None = (k : Kind) → BeginsCurve rest k → ⊥
 
 unfoldable pub puttingAt : List ℕ → ℕ → Kind → List ℤ → Answer (List ℕ)
 puttingAt s at k xs =

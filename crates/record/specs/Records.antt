@@ -3,10 +3,11 @@
 --   erasedBytes  how many bytes FF a list begins with
 --   named        the two bytes after the length are a kind's name
 --   kindIn       the kind that they name
+--   mayStand     records of a kind may stand there: at the sheet's first byte a header alone, behind it every other
 --   allWithin    every number is from −20,000 to 20,000
 --   erasedEnd    the test behind an erased length, by how many bytes FF come first and how many bytes are left
 --   erasedStep, sizedStep, kindStep   the tests behind an erased length, of a known kind, and of the kind
---   stepOf       the step. Places count from the first byte left
+--   stepOf       the step, at the sheet's first byte or behind it. Places count from the first byte left
 use mathlib.Core.Bool.{Bool, true, not, _&&_}
 use mathlib.Core.List.{List, [], _∷_}
 use Prim.Native.Nat.{ℕ, suc}
@@ -51,6 +52,9 @@ unfoldable pub kindIn : List Kind → List ℕ → Named
 kindIn [] rest = named-as.Unknown
 kindIn (k ∷ ks) rest = if named k rest then named-as.Kind k else kindIn ks rest
 
+unfoldable pub mayStand : Bool → Kind → Bool
+mayStand first k = if first then rowOf k .first else not (rowOf k .first)
+
 unfoldable pub allWithin : List ℤ → Bool
 allWithin [] = true
 allWithin (x ∷ xs) = leb (natAbs x) coordinateReach && allWithin xs
@@ -62,14 +66,14 @@ sizedStep k rest =
     else if not (allWithin (coordinates (words k) rest 4)) then Fault refusal.Range 0
     else Record k
 
-abbrev pub kindStep : List ℕ → Named → Step
-kindStep rest (named-as.Kind k) = sizedStep k rest
-kindStep rest named-as.Unknown = Fault refusal.Kind 0
+abbrev pub kindStep : Bool → List ℕ → Named → Step
+kindStep first rest (named-as.Kind k) = if mayStand first k then sizedStep k rest else Fault refusal.Kind 0
+kindStep first rest named-as.Unknown = Fault refusal.Kind 0
 
-unfoldable pub stepOf : List ℕ → Step
-stepOf rest =
+unfoldable pub stepOf : Bool → List ℕ → Step
+stepOf first rest =
     if eqb (length rest) 0 then Ends
     else if eqb (length rest) 1 then (if eqb (getD rest 0 0) erased then Ends else Fault refusal.Cut 0)
     else if eqb (sizeOf rest) erasedLength then erasedStep rest
     else if ltb (length rest) 4 then Fault refusal.Cut 0
-    else kindStep rest (kindIn kinds rest)
+    else kindStep first rest (kindIn kinds rest)

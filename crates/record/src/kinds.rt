@@ -8,6 +8,7 @@ use crate::numbers::half_at;
 pub const LONGEST_RECORD: usize = 52;
 
 pub enum Kind {
+    Header,
     Cubic,
     Quintic,
 }
@@ -18,10 +19,12 @@ pub enum Named {
     Unknown,
 }
 
-// A kind's name, the length of its records, whether what they hold are coordinates, and whether they are curves.
+// A kind's name, the length of its records, whether a sheet begins with one and has no other, whether what they hold are coordinates, and
+// whether they are curves.
 pub struct Row {
     pub name: [u8; 2],
     pub size: usize,
+    pub first: bool,
     pub coordinates: bool,
     pub curve: bool,
 }
@@ -30,15 +33,24 @@ pub fn row_of(kind: Kind) -> Row
     ensures { λ r. ⌜ r ≡ rowOf kind ⌝ }
 {
     match kind {
+        Kind::Header => Row {
+            name: *b"MN",
+            size: 6,
+            first: true,
+            coordinates: false,
+            curve: false,
+        },
         Kind::Cubic => Row {
             name: *b"C3",
             size: 36,
+            first: false,
             coordinates: true,
             curve: true,
         },
         Kind::Quintic => Row {
             name: *b"C5",
             size: 52,
+            first: false,
             coordinates: true,
             curve: true,
         },

@@ -4,7 +4,7 @@ ghost use Prim.Native.Nat.{_+_, _≤_, _<_};
 ghost use lib.ListN.{length};
 ghost use Rattle.whole.specs.Number.{Within};
 ghost use Rattle.curve.specs.Sizes.{coordinateReach};
-ghost use Rattle.record.specs.Numbers.{halfAt, wordAt, signedOf, bits as bitsOf, wordBytes, written};
+ghost use Rattle.record.specs.Numbers.{halfAt, missionIn, wordAt, signedOf, bits as bitsOf, wordBytes, written};
 
 fn wide(x: u8) -> u64
     ensures { λ r. ⌜ (r ≡ x) × (r < 256) ⌝ }
@@ -27,6 +27,14 @@ pub fn word_at(bytes: &[u8], at: usize) -> u64
         + 256 * wide(bytes[at + 1])
         + 65536 * wide(bytes[at + 2])
         + 16777216 * wide(bytes[at + 3])
+}
+
+// The number that a header holds.
+pub fn mission_in(header: &[u8]) -> u16
+    requires { ⌜ 6 ≤ length (now header) ⌝ }
+    ensures { λ r. ⌜ r ≡ missionIn (now (header .entry)) ⌝ }
+{
+    half_at(header, 4) as u16
 }
 
 // A word as a signed number: no cast does that without a proof that nothing is lost. Up by 2^31 and down again takes no test.

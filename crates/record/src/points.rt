@@ -9,6 +9,7 @@ ghost use Rattle.record.specs.declared.kinds.Kind.the-variants as kinds;
 ghost use Rattle.record.specs.Numbers.{wordAt, signedOf};
 ghost use Rattle.record.specs.Kinds.{rowOf, kindOf, numbersOf, pointsIn};
 ghost use Rattle.record.specs.Promise.{IsHeld};
+ghost use Rattle.record.specs.Steps.{HeldAs};
 use crate::kinds::Kind;
 use crate::kinds::Named;
 use crate::kinds::row_of;
@@ -110,13 +111,21 @@ fn quintic_in(bytes: &[u8]) -> Quintic
 }
 
 // The curve that a record's bytes hold.
-fn curve_in(bytes: &[u8], kind: Kind) -> Curve
+fn held_in(bytes: &[u8], kind: Kind) -> Held
     requires { ⌜ length (now bytes) ≡ rowOf kind .size ⌝ }
-    ensures { λ r. ⌜ pointsOf r ≡ pointsIn (now (bytes .entry)) ⌝ }
+    ensures { λ r. ⌜ HeldAs kind (now (bytes .entry)) r ⌝ }
 {
+    let size = bytes.len();
     match kind {
-        Kind::Cubic => Curve::Cubic(cubic_in(bytes)),
-        Kind::Quintic => Curve::Quintic(quintic_in(bytes)),
+        Kind::Header => Held::None,
+        Kind::Cubic => Held::Curve {
+            curve: Curve::Cubic(cubic_in(bytes)),
+            size,
+        },
+        Kind::Quintic => Held::Curve {
+            curve: Curve::Quintic(quintic_in(bytes)),
+            size,
+        },
     }
 }
 
@@ -135,6 +144,5 @@ pub fn held_curve(rest: &[u8]) -> Held
     if rest.len() < size {
         return Held::None;
     }
-    let curve = curve_in(&rest[..size], kind);
-    Held::Curve { curve, size }
+    held_in(&rest[..size], kind)
 }

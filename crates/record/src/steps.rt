@@ -1,10 +1,11 @@
 // One step of reading a sheet: what stands at a record's place.
 ghost use mathlib.Core.Path.{_≡_};
+ghost use mathlib.Core.Bool.{true, false};
 ghost use Prim.Native.Nat.{_+_, _*_, _≤_};
 ghost use lib.ListN.{length};
 ghost use Rattle.record.specs.Numbers.{coordinates};
 ghost use Rattle.record.specs.Kinds.{kinds};
-ghost use Rattle.record.specs.Records.{erasedBytes, erasedEnd, erasedStep, named, kindIn, allWithin, stepOf};
+ghost use Rattle.record.specs.Records.{erasedBytes, erasedEnd, erasedStep, named, kindIn, mayStand, allWithin, stepOf};
 ghost use Rattle.record.specs.Steps.{Headed, Headless};
 use crate::kinds::Kind;
 use crate::kinds::Named;
@@ -78,6 +79,9 @@ pub(crate) fn kind_in(rest: &[u8]) -> Named
     requires { ⌜ 4 ≤ length (now rest) ⌝ }
     ensures { λ r. ⌜ r ≡ kindIn kinds (now (rest .entry)) ⌝ }
 {
+    if is_named(rest, Kind::Header) {
+        return Named::Kind(Kind::Header);
+    }
     if is_named(rest, Kind::Cubic) {
         return Named::Kind(Kind::Cubic);
     }
@@ -85,6 +89,14 @@ pub(crate) fn kind_in(rest: &[u8]) -> Named
         return Named::Kind(Kind::Quintic);
     }
     Named::Unknown
+}
+
+// Whether a kind's records may stand there, by whether that is the sheet's first byte.
+fn may_stand(first: bool, kind: Kind) -> bool
+    ensures { λ r. ⌜ r ≡ mayStand first kind ⌝ }
+{
+    let row = row_of(kind);
+    if first { row.first } else { !row.first }
 }
 
 // Whether the coordinates of a record are all from -20,000 to 20,000. One comparison serves both ends of the range.
@@ -107,9 +119,9 @@ fn all_within(rest: &[u8], words: usize) -> bool
 }
 
 // A record with its kind's head. Each call names the kind, so that the compiler knows how many coordinates it has.
-fn record_step(rest: &[u8], kind: Kind) -> Step
-    requires { ⌜ Headed kind (now rest) ⌝ }
-    ensures { λ r. ⌜ r ≡ stepOf (now (rest .entry)) ⌝ }
+fn record_step(rest: &[u8], first: bool, kind: Kind) -> Step
+    requires { ⌜ (mayStand first kind ≡ true) × Headed kind (now rest) ⌝ }
+    ensures { λ r. ⌜ r ≡ stepOf first (now (rest .entry)) ⌝ }
 {
     if rest.len() < row_of(kind).size {
         Step::Fault(Refusal::Cut, 0)
@@ -120,10 +132,10 @@ fn record_step(rest: &[u8], kind: Kind) -> Step
     }
 }
 
-// What stands where no kind's head does.
-fn headless_step(rest: &[u8]) -> Step
-    requires { ⌜ Headless (now rest) ⌝ }
-    ensures { λ r. ⌜ r ≡ stepOf (now (rest .entry)) ⌝ }
+// What stands where there is no head of a kind that may.
+fn headless_step(rest: &[u8], first: bool) -> Step
+    requires { ⌜ Headless first (now rest) ⌝ }
+    ensures { λ r. ⌜ r ≡ stepOf first (now (rest .entry)) ⌝ }
 {
     let left = rest.len();
     if left == 0 {
@@ -142,24 +154,53 @@ fn headless_step(rest: &[u8]) -> Step
         return Step::Fault(Refusal::Cut, 0);
     }
     match kind_in(rest) {
-        // With the length of its kind it would have the head.
-        Named::Kind(_) => Step::Fault(Refusal::Length, 0),
+        Named::Kind(kind) => {
+            if may_stand(first, kind) {
+                // With the length of its kind it would have the head.
+                Step::Fault(Refusal::Length, 0)
+            } else {
+                Step::Fault(Refusal::Kind, 0)
+            }
+        }
         Named::Unknown => Step::Fault(Refusal::Kind, 0),
     }
 }
 
-// What stands at a record's place, of which `rest` is left. A kind's head passes the tests of length and kind at once.
-pub fn step_of(rest: &[u8]) -> Step
-    ensures { λ r. ⌜ r ≡ stepOf (now (rest .entry)) ⌝ }
+// What stands at the sheet's first byte. A kind's head passes the tests of length and kind at once.
+fn first_step(rest: &[u8]) -> Step
+    ensures { λ r. ⌜ r ≡ stepOf true (now (rest .entry)) ⌝ }
+{
+    if rest.len() >= 4 {
+        if word_at(rest, 0) == head_word(Kind::Header) {
+            return record_step(rest, true, Kind::Header);
+        }
+    }
+    headless_step(rest, true)
+}
+
+// What stands at a further record's place.
+fn later_step(rest: &[u8]) -> Step
+    ensures { λ r. ⌜ r ≡ stepOf false (now (rest .entry)) ⌝ }
 {
     if rest.len() >= 4 {
         let head = word_at(rest, 0);
         if head == head_word(Kind::Cubic) {
-            return record_step(rest, Kind::Cubic);
+            return record_step(rest, false, Kind::Cubic);
         }
         if head == head_word(Kind::Quintic) {
-            return record_step(rest, Kind::Quintic);
+            return record_step(rest, false, Kind::Quintic);
         }
     }
-    headless_step(rest)
+    headless_step(rest, false)
+}
+
+// What stands at a record's place, of which `rest` is left: at the sheet's first byte, or behind it.
+pub fn step_of(rest: &[u8], first: bool) -> Step
+    ensures { λ r. ⌜ r ≡ stepOf first (now (rest .entry)) ⌝ }
+{
+    if first {
+        first_step(rest)
+    } else {
+        later_step(rest)
+    }
 }

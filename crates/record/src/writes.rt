@@ -9,7 +9,8 @@ ghost use lib.ListN.{length, take};
 ghost use Rattle.curve.specs.Sizes.{coordinateReach};
 ghost use Rattle.record.specs.Numbers.{encoded, written};
 ghost use Rattle.curve.specs.Curves.{pointsOf};
-ghost use Rattle.record.specs.Kinds.{rowOf, kindOf, numbersOf, formed};
+ghost use Rattle.record.specs.declared.kinds.Kind.the-variants as kinds;
+ghost use Rattle.record.specs.Kinds.{rowOf, kindOf, numbersOf, formed, headerOf};
 ghost use Rattle.record.specs.Records.{allWithin};
 ghost use Rattle.record.specs.Promise.{PutsAt};
 use crate::kinds::Kind;
@@ -74,6 +75,16 @@ fn put_head(bytes: &mut [u8], kind: Kind)
     ensures { λ _. ⌜ now (bytes .exit) ≡ written (now (bytes .entry)) 0 (formed kind []) ⌝ }
 {
     put_word(bytes, 0, head_word(kind));
+}
+
+// Writes a header over a part of its own length.
+pub fn put_header(bytes: &mut [u8], mission: u16)
+    requires { ⌜ length (now bytes) ≡ rowOf kinds.Header .size ⌝ }
+    ensures { λ _. ⌜ now (bytes .exit) ≡ headerOf mission ⌝ }
+{
+    put_head(bytes, Kind::Header);
+    bytes[4] = (mission % 256) as u8;
+    bytes[5] = (mission / 256) as u8;
 }
 
 // Writes a record of numbers over a part of its own length.

@@ -12,14 +12,14 @@ use Prim.Native.Nat.{ℕ, _-_, _<_}
 use native.Mathlib.Omega.{arith}
 use lib.ListN.{getD, replicate}
 use Rattle.refusal.specs.declared.Refusal.{Refusal}
-use Rattle.refusal.specs.declared.Refusal.the-variants.{TooLong, Cut, Leftover, Kind, Length, Range, Number, Still, NotPh, NoPreimage, Root, Room, Thirds, DeadEnd, Ended, Full}
+use Rattle.refusal.specs.declared.Refusal.the-variants.{TooLong, Cut, Leftover, Kind, Length, Range, Number, Still, NotPh, NoPreimage, Root, Room, Thirds, DeadEnd, NoMission, OtherMission, Ended, Full}
 use Rattle.refusal.specs.Table.{numberOf, Cause, First}
 
 -- the table's row of a number; of any other number some refusal
 named : ℕ → Refusal
 named n =
     getD
-    ((TooLong ∷ Cut ∷ Leftover ∷ Kind ∷ Length ∷ Range ∷ Number ∷ Still ∷ NotPh ∷ NoPreimage ∷ Root ∷ Room ∷ Thirds ∷ DeadEnd ∷ []) ++ replicate 4 TooLong ++ (Ended ∷ Full ∷ []))
+    ((TooLong ∷ Cut ∷ Leftover ∷ Kind ∷ Length ∷ Range ∷ Number ∷ Still ∷ NotPh ∷ NoPreimage ∷ Root ∷ Room ∷ Thirds ∷ DeadEnd ∷ NoMission ∷ OtherMission ∷ []) ++ replicate 2 TooLong ++ (Ended ∷ Full ∷ []))
     (n - 1) TooLong
 
 -- what holds of every row: the one place that goes through the table
@@ -39,6 +39,8 @@ row Root = (refl, omega arith, omega arith)
 row Room = (refl, omega arith, omega arith)
 row Thirds = (refl, omega arith, omega arith)
 row DeadEnd = (refl, omega arith, omega arith)
+row NoMission = (refl, omega arith, omega arith)
+row OtherMission = (refl, omega arith, omega arith)
 row Ended = (refl, omega arith, omega arith)
 row Full = (refl, omega arith, omega arith)
 

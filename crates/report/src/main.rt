@@ -9,9 +9,9 @@ use record::LONGEST;
 use report_text::write_report;
 use text::TextAnswer;
 
-// The report of a sheet. No report is longer than 5,321 bytes.
+// The report of a sheet. No report is longer than 5,335 bytes.
 fn report_of(sheet: &[u8], text: &mut [u8]) -> usize
-    requires { ⌜ 5321 ≤ length (now text) ⌝ }
+    requires { ⌜ 5335 ≤ length (now text) ⌝ }
     ensures { λ n. ⌜ (n ≤ length (now (text .exit))) × Report (now (sheet .entry)) (take n (now (text .exit))) ⌝ }
 {
     match write_report(sheet, text) {
@@ -22,7 +22,7 @@ fn report_of(sheet: &[u8], text: &mut [u8]) -> usize
 
 // A sheet that is too long shows by its first byte too many, so there is room for that byte.
 fn report_input(sheet: &mut [u8], text: &mut [u8])
-    requires { ⌜ (longest < length (now sheet)) × (5321 ≤ length (now text)) ⌝ }
+    requires { ⌜ (longest < length (now sheet)) × (5335 ≤ length (now text)) ⌝ }
 {
     let read = io::read_full(STDIN_FILENO, sheet);
     let end = report_of(&sheet[..read], text);
@@ -31,6 +31,6 @@ fn report_input(sheet: &mut [u8], text: &mut [u8])
 
 fn main() {
     let mut sheet = [0u8; LONGEST + 1];
-    let mut text = [0u8; 5321];
+    let mut text = [0u8; 5335];
     report_input(&mut sheet, &mut text);
 }

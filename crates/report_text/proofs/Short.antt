@@ -1,7 +1,7 @@
 -- How long a report can be.
 --   line-short                    a line of a curve has at most 47 bytes
---   refused-short, first-short    the line of a faulty sheet has at most 19 bytes, the first line of a sound one at most 10
---   report-short                  a report has at most 5,321 bytes
+--   refused-short, first-short    the line of a faulty sheet has at most 19 bytes, the first line of a sound one at most 24
+--   report-short                  a report of a sheet of bytes has at most 5,335 bytes
 --   room-enough                   so an area of that length is not refused, and
 --   written-short                 no more bytes are written
 use mathlib.Core.Path.{_≡_, refl, ap, subst}
@@ -9,8 +9,10 @@ use mathlib.Core.List.{List, _++_}
 use Prim.Native.Nat.{ℕ, zero, suc, _*_, _^_, _≤_, _<_}
 use native.Mathlib.Omega.{arith}
 use lib.IntN.{ℤ, pos, negsuc, natAbs}
-use lib.ListN.{length, length-append}
+use lib.ListN.{length, getD, length-append}
 use lib.Signed.{_≤ℤ_}
+use mir.Syntax.{w8}
+use mir.Val.{Fits}
 use Rattle.refusal.specs.declared.Refusal.{Refusal}
 use Rattle.refusal.specs.declared.Fault.{Fault}
 use Rattle.refusal.specs.Table.{numberOf}
@@ -25,16 +27,19 @@ use Rattle.curve.specs.Curves.{pointsOf, InRange}
 use Rattle.verdict.specs.Promise.{Recognised}
 use Rattle.measure.specs.Lengths.{lengthA, lengthB}
 use Rattle.measure.proofs.LengthSizes.{content-small, length-nonneg, length-small}
-use Rattle.sheet.specs.Survey.{Entry, outcome}
-use Rattle.sheet.specs.Promise.{countOf}
+use Rattle.sheet.specs.declared.Mission.{Mission}
+use Rattle.sheet.specs.declared.Mission.the-variants as mission
+use Rattle.sheet.specs.Survey.{Entry, outcome, missionOf}
+use Rattle.sheet.specs.Promise.{countOf, toldOf}
 use Rattle.sheet.proofs.Surveys.{sound-of}
 use Rattle.sheet.proofs.Faults.{curves-few, fault-near}
-use Rattle.sheet.proofs.Ahead.{read-in-range}
+use Rattle.sheet.proofs.Missions.{MissionSmall, mission-small}
+use Rattle.sheet.proofs.Ahead.{curve-in-range}
 use Rattle.text.specs.Texts.{signed, labelled, bytes, decimal}
 use Rattle.text.specs.declared.TextAnswer.the-variants as text
 use Rattle.text.proofs.Decimals.{decimal-few}
 use Rattle.text.proofs.Held.{asked-written, room-enough as enough}
-use Rattle.report_text.specs.Texts.{firstLine, kindText, verdictText, refusedLine}
+use Rattle.report_text.specs.Texts.{missionText, firstLine, kindText, verdictText, refusedLine}
 use Rattle.report_text.specs.Promise.{Line, Lines, ReportOf, Report, Reported}
 
 -- ---- the numbers
@@ -89,7 +94,7 @@ line-short s number l h m =
       length-append digits kind,
       kind-long (h .curve),
       decimal-few 2 number (omega arith),
-      verdict-short (h .curve) (h .verdict) (read-in-range s number (h .curve) (h .reads)) (h .recognised),
+      verdict-short (h .curve) (h .verdict) (curve-in-range s number (h .curve) (h .has)) (h .recognised),
     )
 
 lines-short : (s : List ℕ) (n : ℕ) (t : List ℕ) → Lines s n t → n < 1000 → length t ≤ 47 * n
@@ -117,34 +122,41 @@ refused-short s f o =
 few : (s : List ℕ) (es : List Entry) → outcome s ≡ given es → countOf es ≤ 113
 few s es o = subst (λ (x : List Entry). countOf x ≤ 113) (sound-of s o .1) (curves-few s)
 
-pub first-short : (s : List ℕ) (es : List Entry) → outcome s ≡ given es → length (firstLine (countOf es)) ≤ 10
-first-short s es o =
-    let count = countOf es in
+mission-short : (m : Mission) → MissionSmall m → length (missionText m) ≤ 13
+mission-short mission.None l = omega arith
+mission-short (mission.Number m) l = omega (arith, length-append (bytes "mission ") (decimal m), decimal-few 4 m (omega (arith, l)))
+
+pub first-short : (m : Mission) (count : ℕ) → MissionSmall m → count ≤ 113 → length (firstLine m count) ≤ 24
+first-short m count small l =
     omega (
       arith,
-      length-append (labelled "sheet " (pos count)) (bytes "\n"),
-      length-append (bytes "sheet ") (decimal count),
-      decimal-few 2 count (omega (arith, few s es o)),
+      length-append (missionText m ++ labelled " sheet " (pos count)) (bytes "\n"),
+      length-append (missionText m) (labelled " sheet " (pos count)),
+      length-append (bytes " sheet ") (decimal count),
+      mission-short m small,
+      decimal-few 2 count (omega (arith, l)),
     )
 
-pub report-short : (s t : List ℕ) → Report s t → length t ≤ 5321
-report-short s t = by (outcome s) refl
-  where
-    by : (a : Answer (List Entry)) → outcome s ≡ a → ReportOf s (with-given countOf a) t → length t ≤ 5321
-    by (refused f) o h = omega (arith, ap length h, refused-short s f o)
-    by (given es) o (l, h, is) =
-        let count = countOf es in
-        omega (
-          arith,
-          ap length is,
-          length-append (firstLine count) l,
-          first-short s es o,
-          few s es o,
-          lines-short s count l h (omega (arith, few s es o)),
-        )
+-- the bytes of a sheet
+module _ (s : List ℕ) (small : (i : ℕ) → Fits w8 (getD s i 0)) where
+  pub report-short : (t : List ℕ) → Report s t → length t ≤ 5335
+  report-short t = by (outcome s) refl
+    where
+      by : (a : Answer (List Entry)) → outcome s ≡ a → ReportOf s (with-given toldOf a) t → length t ≤ 5335
+      by (refused f) o h = omega (arith, ap length h, refused-short s f o)
+      by (given es) o (l, h, is) =
+          let count = countOf es in
+          omega (
+            arith,
+            ap length is,
+            length-append (firstLine (missionOf es) count) l,
+            first-short (missionOf es) count (subst (λ (x : List Entry). MissionSmall (missionOf x)) (sound-of s o .1) (mission-small s small)) (few s es o),
+            few s es o,
+            lines-short s count l h (omega (arith, few s es o)),
+          )
 
-pub room-enough : (s before after : List ℕ) (r : Refusal) → 5321 ≤ length before → Reported s before after (text.Refused r) → ⊥
-room-enough s = enough 5321 (report-short s)
+  pub room-enough : (before after : List ℕ) (r : Refusal) → 5335 ≤ length before → Reported s before after (text.Refused r) → ⊥
+  room-enough = enough 5335 report-short
 
-pub written-short : (s before after : List ℕ) (n : ℕ) → Reported s before after (text.Written n) → n ≤ 5321
-written-short s before after n h = omega (arith, asked-written (length before) (h .text) n (h .says), report-short s (h .text) (h .is))
+  pub written-short : (before after : List ℕ) (n : ℕ) → Reported s before after (text.Written n) → n ≤ 5335
+  written-short before after n h = omega (arith, asked-written (length before) (h .text) n (h .says), report-short (h .text) (h .is))

@@ -11,18 +11,18 @@ use Rattle.curve.specs.declared.Curve.{Curve}
 use Rattle.curve.specs.Curves.{pointsOf}
 use Rattle.verdict.specs.declared.Verdict.{Verdict}
 use Rattle.verdict.specs.Promise.{Recognised}
-use Rattle.sheet.specs.declared.Reading.the-variants as reading
+use Rattle.sheet.specs.declared.Mission.{Mission}
 use Rattle.sheet.specs.Survey.{outcome}
-use Rattle.sheet.specs.Promise.{countOf, Reads}
+use Rattle.sheet.specs.Promise.{HasCurve, toldOf}
 use Rattle.text.specs.declared.TextAnswer.{TextAnswer}
 use Rattle.text.specs.Promise.{TextIn}
 use Rattle.report_text.specs.Texts.{firstLine, lineText, refusedLine}
 
--- the curve that `read` gives, with the verdict of `recognise`
+-- the sheet's curve of the number, with the verdict of `recognise`
 pub record Line (s : List ℕ) (number : ℕ) (line : List ℕ) : Type 0 where
   pub curve : Curve
   pub verdict : Verdict
-  pub reads : Reads s number (reading.Points curve)
+  pub has : HasCurve s number curve
   pub recognised : Recognised (pointsOf curve) verdict
   pub is : line ≡ lineText number curve verdict
 
@@ -30,12 +30,12 @@ abbrev pub Lines : List ℕ → ℕ → List ℕ → Type 0
 Lines s zero text = text ≡ []
 Lines s (suc n) text = (earlier : List ℕ) × (line : List ℕ) × Lines s n earlier × Line s (suc n) line × (text ≡ earlier ++ line)
 
-abbrev pub ReportOf : List ℕ → Answer ℕ → List ℕ → Type 0
+abbrev pub ReportOf : List ℕ → Answer (Mission × ℕ) → List ℕ → Type 0
 ReportOf s (refused f) text = text ≡ refusedLine f
-ReportOf s (given count) text = (lines : List ℕ) × Lines s count lines × (text ≡ firstLine count ++ lines)
+ReportOf s (given (m, count)) text = (lines : List ℕ) × Lines s count lines × (text ≡ firstLine m count ++ lines)
 
 abbrev pub Report : List ℕ → List ℕ → Type 0
-Report s text = ReportOf s (with-given countOf (outcome s)) text
+Report s text = ReportOf s (with-given toldOf (outcome s)) text
 
 abbrev pub Reported : List ℕ → List ℕ → List ℕ → TextAnswer → Type 0
 Reported s = TextIn (Report s)

@@ -9,6 +9,7 @@ use Rattle.curve.specs.declared.Curve.{Curve}
 use Rattle.curve.specs.Curves.{pointsOf}
 use Rattle.verdict.specs.declared.Verdict.{Verdict}
 use Rattle.verdict.specs.Promise.{Recognised}
+use Rattle.sheet.specs.declared.Mission.{Mission}
 use Rattle.text.specs.declared.Place.{Place}
 use Rattle.text.specs.Steps.{Writes}
 use Rattle.report_text.specs.Promise.{Lines, ReportOf}
@@ -24,7 +25,7 @@ pub record WritesLines (before : List ℕ) (place : Place) (s : List ℕ) (count
   pub writes : Writes before place lines after next
 
 -- of a sheet whose check answers a
-pub record WritesReport (before : List ℕ) (place : Place) (s : List ℕ) (a : Answer ℕ) (after : List ℕ) (next : Place) : Type 0 where
+pub record WritesReport (before : List ℕ) (place : Place) (s : List ℕ) (a : Answer (Mission × ℕ)) (after : List ℕ) (next : Place) : Type 0 where
   pub text : List ℕ
   pub of-sheet : ReportOf s a text
   pub writes : Writes before place text after next

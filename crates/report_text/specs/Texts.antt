@@ -1,5 +1,6 @@
 -- The text of a report, as bytes: 01, "The report".
---   firstLine           the first line of a sound sheet's report
+--   missionText         a sheet's mission
+--   firstLine           the first line of a sound sheet's report: 02, P6
 --   verdictText         a verdict with its numbers
 --   kindText            a curve's kind, between blanks
 --   lineText            the line of a curve
@@ -14,10 +15,16 @@ use Rattle.verdict.specs.declared.Verdict.{Verdict}
 use Rattle.verdict.specs.declared.Verdict.the-variants as verdict
 use Rattle.measure.specs.Lengths.{lengthA, lengthB}
 use Rattle.record.specs.Kinds.{rowOf, kindOf}
+use Rattle.sheet.specs.declared.Mission.{Mission}
+use Rattle.sheet.specs.declared.Mission.the-variants as mission
 use Rattle.text.specs.Texts.{bytes, decimal, labelled}
 
-abbrev pub firstLine : ℕ → List ℕ
-firstLine count = labelled "sheet " (pos count) ++ bytes "\n"
+abbrev pub missionText : Mission → List ℕ
+missionText mission.None = bytes "mission none"
+missionText (mission.Number m) = labelled "mission " (pos m)
+
+abbrev pub firstLine : Mission → ℕ → List ℕ
+firstLine m count = missionText m ++ labelled " sheet " (pos count) ++ bytes "\n"
 
 -- a curve of a sound sheet is in range, so the last case does not occur
 abbrev pub verdictText : Curve → Verdict → List ℕ

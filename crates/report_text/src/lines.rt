@@ -7,16 +7,18 @@ ghost use Rattle.verdict.specs.Verdicts.{PreimageOf};
 ghost use Rattle.sheet.specs.Survey.{outcome};
 ghost use Rattle.sheet.specs.Promise.{countOf};
 ghost use Rattle.text.specs.Steps.{Writes};
-ghost use Rattle.report_text.specs.Texts.{firstLine, kindText, verdictText, lineText, refusedLine};
+ghost use Rattle.report_text.specs.Texts.{missionText, firstLine, kindText, verdictText, lineText, refusedLine};
 ghost use Rattle.report_text.specs.Steps.{WritesJudged, WritesLines};
 use curve::Curve;
 use measure::length_by;
 use record::Held;
+use record::Kind;
 use record::held_curve;
 use record::kind_of;
 use record::row_of;
 use refusal::Fault;
 use refusal::number;
+use sheet::Mission;
 use text::Place;
 use text::put;
 use text::put_labelled;
@@ -70,11 +72,21 @@ fn put_line(area: &mut [u8], place: Place, number: usize, curve: Curve) -> Place
     put(area, end, b"\n")
 }
 
-// The first line of a sound sheet, which has so many curves.
-pub fn put_first_line(area: &mut [u8], place: Place, count: usize) -> Place
-    ensures { λ r. ⌜ Writes (now (area .entry)) place (firstLine count) (now (area .exit)) r ⌝ }
+fn put_mission(area: &mut [u8], place: Place, mission: Mission) -> Place
+    ensures { λ r. ⌜ Writes (now (area .entry)) place (missionText mission) (now (area .exit)) r ⌝ }
 {
-    let line = put_labelled(area, place, b"sheet ", count as u64);
+    match mission {
+        Mission::None => put(area, place, b"mission none"),
+        Mission::Number(number) => put_labelled(area, place, b"mission ", number as u64),
+    }
+}
+
+// The first line of a sound sheet: its mission, and how many curves it has.
+pub fn put_first_line(area: &mut [u8], place: Place, mission: Mission, count: usize) -> Place
+    ensures { λ r. ⌜ Writes (now (area .entry)) place (firstLine mission count) (now (area .exit)) r ⌝ }
+{
+    let sheet = put_mission(area, place, mission);
+    let line = put_labelled(area, sheet, b" sheet ", count as u64);
     put(area, line, b"\n")
 }
 
@@ -88,13 +100,13 @@ pub fn put_refused(area: &mut [u8], place: Place, f: Fault) -> Place
     put(area, line, b"\n")
 }
 
-// The lines of a sound sheet's curves, of which there are `count`, in one pass from record to record.
+// The lines of a sound sheet's curves, of which there are `count`, in one pass from record to record behind the header.
 pub(crate) fn put_lines(area: &mut [u8], place: Place, sheet: &[u8], count: usize) -> Place
     requires { ⌜ with-given countOf (outcome (now sheet)) ≡ given count ⌝ }
     ensures { λ r. ⌜ WritesLines (now (area .entry)) place (now (sheet .entry)) count (now (area .exit)) r ⌝ }
 {
     let mut at = place;
-    let mut next: usize = 0;
+    let mut next = row_of(Kind::Header).size;
     let mut k: usize = 0;
     while k < count {
         let Held::Curve { curve, size } = held_curve(&sheet[next..]) else {

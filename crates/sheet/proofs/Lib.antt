@@ -1,7 +1,8 @@
--- What the proofs share, and, in Surveys, Moved, Places, Once, Laws, Kept, Ahead, Faults and Examples, what other crates may cite.
+-- What the proofs share, and, in Surveys, Moved, Missions, Places, Once, Laws, Kept, Ahead, Faults, Examples and Started, what other crates may cite.
 pub mod Surveys
 pub mod Moved
 pub mod Standing
+pub mod Missions
 pub mod Passed
 pub mod Places
 pub mod Told
@@ -13,3 +14,4 @@ pub mod Kept
 pub mod Ahead
 pub mod Faults
 pub mod Examples
+pub mod Started

@@ -28,25 +28,25 @@ movedEntry d e = record { place = d + e .place; kind = e .kind; bytes = e .bytes
 abbrev pub moved : ℕ → Survey → Survey
 moved d v = record { records = map (movedEntry d) (v .records); end = d + v .end; ending = movedEnding d (v .ending) }
 
-from-moved : (d most at : ℕ) (rest : List ℕ) → surveyFrom most (d + at) rest ≡ moved d (surveyFrom most at rest)
+from-moved : (d most : ℕ) (first : Bool) (at : ℕ) (rest : List ℕ) → surveyFrom most first (d + at) rest ≡ moved d (surveyFrom most first at rest)
 unfolding surveyFrom
-from-moved d zero at rest = refl
-from-moved d (suc most) at rest = by-step (stepOf rest) (λ p t. from-moved d most p t)
+from-moved d zero first at rest = refl
+from-moved d (suc most) first at rest = by-step (stepOf first rest) (λ p t. from-moved d most false p t)
   where
     Later : ℕ → ℕ → Survey
-    Later p size = surveyFrom most (p + size) (drop size rest)
+    Later p size = surveyFrom most false (p + size) (drop size rest)
 
-    by-step : (x : Step) → ((p : ℕ) (t : List ℕ) → surveyFrom most (d + p) t ≡ moved d (surveyFrom most p t)) → found (d + at) rest (Later (d + at)) x ≡ moved d (found at rest (Later at) x)
+    by-step : (x : Step) → ((p : ℕ) (t : List ℕ) → surveyFrom most false (d + p) t ≡ moved d (surveyFrom most false p t)) → found (d + at) rest (Later (d + at)) x ≡ moved d (found at rest (Later at) x)
     by-step step.Ends f = refl
     by-step (step.Fault r offset) f = ap (λ (n : ℕ). nothing (d + at) (Faulty (record { refusal = r; place = n }))) (omega arith)
     by-step (step.Record k) f =
         let size = rowOf k .size in
         let there : d + at + size ≡ d + (at + size) = omega arith in
-        ap (before (entryAt (d + at) rest k)) (ap (λ (n : ℕ). surveyFrom most n (drop size rest)) there ∙ f (at + size) (drop size rest))
+        ap (before (entryAt (d + at) rest k)) (ap (λ (n : ℕ). surveyFrom most false n (drop size rest)) there ∙ f (at + size) (drop size rest))
 
-pub reads-moved : (d at : ℕ) (rest : List ℕ) → reads (d + at) rest ≡ moved d (reads at rest)
+pub reads-moved : (first : Bool) (d at : ℕ) (rest : List ℕ) → reads first (d + at) rest ≡ moved d (reads first at rest)
 unfolding reads
-reads-moved d at rest = from-moved d (suc (length rest)) at rest
+reads-moved first d at rest = from-moved d (suc (length rest)) first at rest
 
 pub curves-moved : (d : ℕ) (es : List Entry) → length (curves (map (movedEntry d) es)) ≡ length (curves es)
 unfolding if_then_else_

@@ -16,7 +16,7 @@ use lib.Seq.{take-all, drop-drop}
 use Rattle.refusal.specs.declared.Refusal.{Refusal}
 use Rattle.refusal.specs.declared.Refusal.the-variants as refusal
 use Rattle.refusal.specs.declared.Fault.{Fault}
-use Rattle.refusal.specs.Answers.{Answer, if_then_else_}
+use Rattle.refusal.specs.Answers.{if_then_else_}
 use Rattle.record.specs.declared.kinds.Kind.{Kind}
 use Rattle.record.specs.declared.steps.Step.the-variants as step
 use Rattle.record.specs.Kinds.{rowOf}
@@ -24,7 +24,7 @@ use Rattle.record.specs.Records.{longest, stepOf}
 use Rattle.record.proofs.Shown.{step-whole}
 use Rattle.sheet.specs.declared.walks.Ending.{Ending}
 use Rattle.sheet.specs.declared.walks.Ending.the-variants.{Sound, Faulty}
-use Rattle.sheet.specs.Survey.{Entry, Survey, entryAt, nothing, before, survey, curves, nth}
+use Rattle.sheet.specs.Survey.{Entry, Survey, entryAt, nothing, before, surveyOf, curves, nth}
 use Rattle.sheet.specs.Walks.{Asked, nowhere, there, Walks}
 use Rattle.sheet.proofs.Surveys.{behind, reads, reads-ends, reads-fault, reads-record, survey-long, survey-short}
 use Rattle.sheet.proofs.Standing.{curves-append, nth-last, nth-other}
@@ -33,21 +33,21 @@ behind-one : (es : List Entry) (e : Entry) (v : Survey) → behind es (before e 
 behind-one es e v = ap (λ (fs : List Entry). record { records = fs; end = v .end; ending = v .ending }) (sym (append-assoc es (e ∷ []) (v .records)))
 
 -- `records` are those that were passed
-pub record Passed (s : List ℕ) (number at count from to : ℕ) : Type 0 where
+pub record Passed (s : List ℕ) (first : Bool) (number : ℕ) (now-first : Bool) (at count from to : ℕ) : Type 0 where
   pub records : List Entry
-  pub ahead : reads 0 s ≡ behind records (reads at (drop at s))
+  pub ahead : reads first 0 s ≡ behind records (reads now-first at (drop at s))
   pub room : at ≤ length s
   pub count-is : count ≡ length (curves records)
   pub few : count ≤ at
   pub asked : Asked from to (nth number (curves records))
 
-pub passed-none : (s : List ℕ) (number : ℕ) → Passed s number 0 0 0 0
-passed-none s number = record { records = []; ahead = refl; room = omega arith; count-is = refl; few = omega arith; asked = nowhere refl }
+pub passed-none : (s : List ℕ) (first : Bool) (number : ℕ) → Passed s first number first 0 0 0 0
+passed-none s first number = record { records = []; ahead = refl; room = omega arith; count-is = refl; few = omega arith; asked = nowhere refl }
 
-pub walked-long : (s : List ℕ) (number : ℕ) {f : Fault} → longest < length s → f ≡ record { refusal = refusal.TooLong; place = 0 } →
-    Walks s number (record { curves = 0; end = 0; from = 0; to = 0; ending = Faulty f })
-walked-long s number l g =
-    let e = survey-long s l in
+pub walked-long : (s : List ℕ) (first : Bool) (number : ℕ) {f : Fault} → longest < length s → f ≡ record { refusal = refusal.TooLong; place = 0 } →
+    Walks s first number (record { curves = 0; end = 0; from = 0; to = 0; ending = Faulty f })
+walked-long s first number l g =
+    let e = survey-long first s l in
     record {
       curves-is = sym (ap (λ (v : Survey). length (curves (v .records))) e);
       end-is = sym (ap (λ (v : Survey). v .end) e);
@@ -60,11 +60,11 @@ walked-long s number l g =
 pub rest-is : (s : List ℕ) (at : ℕ) → take (length s - at) (drop at s) ≡ drop at s
 rest-is s at = take-all (length s - at) (drop at s) (omega (arith, length-drop at s))
 
-module _ {s : List ℕ} {number at count from to : ℕ} (p : Passed s number at count from to) where
-  walked-as : (how : Ending) → length s ≤ longest → reads at (drop at s) ≡ nothing at how → Walks s number (record { curves = count; end = at; from = from; to = to; ending = how })
+module _ {s : List ℕ} {first : Bool} {number : ℕ} {now-first : Bool} {at count from to : ℕ} (p : Passed s first number now-first at count from to) where
+  walked-as : (how : Ending) → length s ≤ longest → reads now-first at (drop at s) ≡ nothing at how → Walks s first number (record { curves = count; end = at; from = from; to = to; ending = how })
   walked-as how l e =
-      let v : survey s ≡ record { records = p .records; end = at; ending = how } =
-      survey-short s l ∙ p .ahead ∙ ap (behind (p .records)) e ∙ ap (λ (es : List Entry). record { records = es; end = at; ending = how }) (append-nil (p .records))
+      let v : surveyOf first s ≡ record { records = p .records; end = at; ending = how } =
+      survey-short first s l ∙ p .ahead ∙ ap (behind (p .records)) e ∙ ap (λ (es : List Entry). record { records = es; end = at; ending = how }) (append-nil (p .records))
       in
       record {
         curves-is = p .count-is ∙ sym (ap (λ (v : Survey). length (curves (v .records))) v);
@@ -74,14 +74,14 @@ module _ {s : List ℕ} {number at count from to : ℕ} (p : Passed s number at 
         asked = subst (λ (v : Survey). Asked from to (nth number (curves (v .records)))) (sym v) (p .asked);
       }
 
-  pub sound-here : length s ≤ longest → stepOf (drop at s) ≡ step.Ends → Walks s number (record { curves = count; end = at; from = from; to = to; ending = Sound })
-  sound-here l e = walked-as Sound l (reads-ends at (drop at s) e)
+  pub sound-here : length s ≤ longest → stepOf now-first (drop at s) ≡ step.Ends → Walks s first number (record { curves = count; end = at; from = from; to = to; ending = Sound })
+  sound-here l e = walked-as Sound l (reads-ends now-first at (drop at s) e)
 
-  pub fault-here : length s ≤ longest → {r : Refusal} {offset : ℕ} → stepOf (drop at s) ≡ step.Fault r offset →
-      Walks s number (record { curves = count; end = at; from = from; to = to; ending = Faulty (record { refusal = r; place = at + offset }) })
-  fault-here l {r} {offset} e = walked-as (Faulty (record { refusal = r; place = at + offset })) l (reads-fault at (drop at s) e)
+  pub fault-here : length s ≤ longest → {r : Refusal} {offset : ℕ} → stepOf now-first (drop at s) ≡ step.Fault r offset →
+      Walks s first number (record { curves = count; end = at; from = from; to = to; ending = Faulty (record { refusal = r; place = at + offset }) })
+  fault-here l {r} {offset} e = walked-as (Faulty (record { refusal = r; place = at + offset })) l (reads-fault now-first at (drop at s) e)
 
-  module _ (k : Kind) (e : stepOf (drop at s) ≡ step.Record k) where
+  module _ (k : Kind) (e : stepOf now-first (drop at s) ≡ step.Record k) where
     abbrev size : ℕ
     size = rowOf k .size
 
@@ -89,18 +89,18 @@ module _ {s : List ℕ} {number at count from to : ℕ} (p : Passed s number at 
     here = entryAt at (drop at s) k
 
     pub farther : (0 < size) × (at + size ≤ length s)
-    farther = let w = step-whole (drop at s) k e in (omega (arith, w .1), omega (arith, w .2, length-drop at s, p .room))
+    farther = let w = step-whole now-first (drop at s) k e in (omega (arith, w .1), omega (arith, w .2, length-drop at s, p .room))
 
     -- with the record behind, whatever was asked for
     passed-with : (count′ from′ to′ : ℕ) → count′ ≤ count + 1 → count′ ≡ length (curves (p .records ++ (here ∷ []))) →
-        Asked from′ to′ (nth number (curves (p .records ++ (here ∷ [])))) → Passed s number (at + size) count′ from′ to′
+        Asked from′ to′ (nth number (curves (p .records ++ (here ∷ [])))) → Passed s first number false (at + size) count′ from′ to′
     passed-with count′ from′ to′ f c a =
         record {
           records = p .records ++ (here ∷ []);
           ahead =
-              p .ahead ∙ ap (behind (p .records)) (reads-record at (drop at s) k e)
-              ∙ behind-one (p .records) here (reads (at + size) (drop size (drop at s)))
-              ∙ ap (λ (rest : List ℕ). behind (p .records ++ (here ∷ [])) (reads (at + size) rest)) (drop-drop size at s);
+              p .ahead ∙ ap (behind (p .records)) (reads-record now-first at (drop at s) k e)
+              ∙ behind-one (p .records) here (reads false (at + size) (drop size (drop at s)))
+              ∙ ap (λ (rest : List ℕ). behind (p .records ++ (here ∷ [])) (reads false (at + size) rest)) (drop-drop size at s);
           room = farther .1;
           count-is = c;
           few = omega (arith, p .few, f, farther .0);
@@ -118,21 +118,21 @@ module _ {s : List ℕ} {number at count from to : ℕ} (p : Passed s number at 
     counted : rowOf k .curve ≡ true → count + 1 ≡ length (curves (p .records ++ (here ∷ [])))
     counted c = omega (arith, p .count-is, ap length (one-more c), length-append (curves (p .records)) (here ∷ []))
 
-    pub passed-here : rowOf k .curve ≡ true → count + 1 ≡ number → Passed s number (at + size) (count + 1) at (at + size)
+    pub passed-here : rowOf k .curve ≡ true → count + 1 ≡ number → Passed s first number false (at + size) (count + 1) at (at + size)
     passed-here c n =
         let m : number ≡ suc (length (curves (p .records))) = omega (arith, p .count-is) in
         let is : nth number (curves (p .records ++ (here ∷ []))) ≡ _ = ap (λ (es : List Entry). nth number es) (one-more c) ∙ ap (λ (n : ℕ). nth n (curves (p .records) ++ (here ∷ []))) m ∙ nth-last (curves (p .records)) here in
         passed-with (count + 1) at (at + size) (omega arith) (counted c)
-        (subst (Asked at (at + size)) (sym is) (there refl (ap (λ (n : ℕ). at + n) (sym (step-whole (drop at s) k e .0 .long)))))
+        (subst (Asked at (at + size)) (sym is) (there refl (ap (λ (n : ℕ). at + n) (sym (step-whole now-first (drop at s) k e .0 .long)))))
 
-    pub passed-past : rowOf k .curve ≡ true → (count + 1 ≡ number → ⊥) → Passed s number (at + size) (count + 1) from to
+    pub passed-past : rowOf k .curve ≡ true → (count + 1 ≡ number → ⊥) → Passed s first number false (at + size) (count + 1) from to
     passed-past c n =
         let is : nth number (curves (p .records ++ (here ∷ []))) ≡ nth number (curves (p .records)) =
         ap (λ (es : List Entry). nth number es) (one-more c) ∙ nth-other number (curves (p .records)) here (λ m. n (omega (arith, p .count-is)))
         in
         passed-with (count + 1) from to (omega arith) (counted c) (subst (Asked from to) (sym is) (p .asked))
 
-    pub passed-other : rowOf k .curve ≡ false → Passed s number (at + size) count from to
+    pub passed-other : rowOf k .curve ≡ false → Passed s first number false (at + size) count from to
     passed-other c =
         let same = none-more c in
         passed-with count from to (omega arith) (p .count-is ∙ sym (ap length same)) (subst (λ (es : List Entry). Asked from to (nth number es)) (sym same) (p .asked))

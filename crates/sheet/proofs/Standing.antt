@@ -4,8 +4,8 @@
 --   curves-append       the curves of one list and then another
 --   nth-last, nth-other the curve of a number, where one more stands at the list's end
 --   nth-stands          a curve that has a number is a record that stands, and a curve
---   chosen-sound, chosen-faulty     what the ending says of the curve of a number
---   Chosen, chosen-of   a curve that is chosen: a record that stands, in a sound sheet.      entry-long   it is not empty
+--   numbered-sound, numbered-faulty     what the ending says of the curve of a number
+--   Numbered, numbered-of   a curve that has a number: a record that stands, in a sound sheet.      entry-long   it is not empty
 use mathlib.Core.Path.{_≡_, refl, sym, ap, _∙_, subst}
 use mathlib.Core.Bool.{Bool, true, false}
 use mathlib.Core.List.{List, [], _∷_, _++_, append-assoc}
@@ -14,7 +14,7 @@ use native.Mathlib.Omega.{arith}
 use lib.ListN.{length, take, drop, length-append}
 use lib.Seq.{take-at, drop-at}
 use Rattle.refusal.specs.declared.Fault.{Fault}
-use Rattle.refusal.specs.Answers.{Answer, refused, given, then-given, if_then_else_}
+use Rattle.refusal.specs.Answers.{refused, given, then-given, if_then_else_}
 use Rattle.refusal.proofs.Answers.{by-test, by-order, no-answer, given-once}
 use Rattle.record.specs.Kinds.{rowOf}
 use Rattle.record.proofs.Shown.{Whole}
@@ -22,7 +22,7 @@ use Rattle.record.proofs.Table.{row-known}
 use Rattle.record.specs.Records.{longest}
 use Rattle.sheet.specs.declared.walks.Ending.{Ending}
 use Rattle.sheet.specs.declared.walks.Ending.the-variants.{Sound, Faulty}
-use Rattle.sheet.specs.Survey.{Entry, Survey, survey, soundly, outcome, curves, nth, chosen}
+use Rattle.sheet.specs.Survey.{Entry, Survey, survey, soundly, curves, nth, numbered}
 use Rattle.sheet.proofs.Surveys.{flat, Listed, survey-long, sheet-parts, short-of}
 
 pub record Standing (s : List ℕ) (e : Entry) : Type 0 where
@@ -34,9 +34,9 @@ abbrev pub AllStand : List ℕ → List Entry → Type 0
 AllStand s [] = Unit {0}
 AllStand s (e ∷ es) = Standing s e × AllStand s es
 
-stand : (front : List ℕ) (es : List Entry) (tail : List ℕ) → Listed (length front) es → AllStand (front ++ (flat es ++ tail)) es
-stand front [] tail w = tt
-stand front (e ∷ es) tail w =
+stand : (first : Bool) (front : List ℕ) (es : List Entry) (tail : List ℕ) → Listed first (length front) es → AllStand (front ++ (flat es ++ tail)) es
+stand first front [] tail w = tt
+stand first front (e ∷ es) tail w =
     let b = e .bytes in
     let joined : front ++ (flat (e ∷ es) ++ tail) ≡ (front ++ b) ++ (flat es ++ tail) =
     ap (λ (t : List ℕ). front ++ t) (append-assoc b (flat es) tail) ∙ sym (append-assoc front b (flat es ++ tail))
@@ -47,18 +47,18 @@ stand front (e ∷ es) tail w =
       record {
         fits = omega (arith, w .0, ap length joined, length-append (front ++ b) (flat es ++ tail), length-append front b);
         there = ap (take (length b)) here ∙ take-at b (flat es ++ tail) (length b) refl;
-        whole = w .1;
+        whole = w .2;
       },
-      subst (λ (s : List ℕ). AllStand s es) (sym joined) (stand (front ++ b) es tail (subst (λ (n : ℕ). Listed n es) (sym (length-append front b)) (w .2))),
+      subst (λ (s : List ℕ). AllStand s es) (sym joined) (stand false (front ++ b) es tail (subst (λ (n : ℕ). Listed false n es) (sym (length-append front b)) (w .3))),
     )
 
 pub all-stand : (s : List ℕ) → AllStand s (survey s .records)
 all-stand s =
     by-order (length s) longest
     (λ l.
-    let p = sheet-parts s l in
-    subst (λ (t : List ℕ). AllStand t (survey s .records)) (sym (p .parts)) (stand [] (survey s .records) (p .tail) (p .listed)))
-    (λ l. subst (λ (v : Survey). AllStand s (v .records)) (sym (survey-long s l)) tt)
+    let p = sheet-parts true s l in
+    subst (λ (t : List ℕ). AllStand t (survey s .records)) (sym (p .parts)) (stand true [] (survey s .records) (p .tail) (p .listed)))
+    (λ l. subst (λ (v : Survey). AllStand s (v .records)) (sym (survey-long true s l)) tt)
 
 -- ---- the curves
 
@@ -108,28 +108,28 @@ nth-stands s number = nth-curve s number (curves (survey s .records)) (all-curve
 -- ---- the curve of a number
 
 module _ (s : List ℕ) (number : ℕ) where
-  pub chosen-sound : survey s .ending ≡ Sound → chosen number s ≡ nth number (curves (survey s .records))
-  chosen-sound e = ap (λ (how : Ending). then-given (λ es. nth number (curves es)) (soundly how (survey s .records))) e
+  pub numbered-sound : survey s .ending ≡ Sound → numbered number s ≡ nth number (curves (survey s .records))
+  numbered-sound e = ap (λ (how : Ending). then-given (λ es. nth number (curves es)) (soundly how (survey s .records))) e
 
-  pub chosen-faulty : {f : Fault} → survey s .ending ≡ Faulty f → chosen number s ≡ refused f
-  chosen-faulty e = ap (λ (how : Ending). then-given (λ es. nth number (curves es)) (soundly how (survey s .records))) e
+  pub numbered-faulty : {f : Fault} → survey s .ending ≡ Faulty f → numbered number s ≡ refused f
+  numbered-faulty e = ap (λ (how : Ending). then-given (λ es. nth number (curves es)) (soundly how (survey s .records))) e
 
-pub record Chosen (s : List ℕ) (number : ℕ) (e : Entry) : Type 0 where
+pub record Numbered (s : List ℕ) (number : ℕ) (e : Entry) : Type 0 where
   pub sound : survey s .ending ≡ Sound
   pub short : length s ≤ longest
   pub listed : nth number (curves (survey s .records)) ≡ given e
   pub stands : Standing s e
   pub curve : rowOf (e .kind) .curve ≡ true
 
-pub chosen-of : (s : List ℕ) (number : ℕ) {e : Entry} → chosen number s ≡ given e → Chosen s number e
-chosen-of s number {e} q = by (survey s .ending) refl
+pub numbered-of : (s : List ℕ) (number : ℕ) {e : Entry} → numbered number s ≡ given e → Numbered s number e
+numbered-of s number {e} q = by (survey s .ending) refl
   where
-    by : (how : Ending) → survey s .ending ≡ how → Chosen s number e
+    by : (how : Ending) → survey s .ending ≡ how → Numbered s number e
     by Sound h =
-        let n = sym (chosen-sound s number h) ∙ q in
+        let n = sym (numbered-sound s number h) ∙ q in
         let w = nth-stands s number n in
         record { sound = h; short = short-of s h; listed = n; stands = w .0; curve = w .1 }
-    by (Faulty f) h = no-answer (sym (sym (chosen-faulty s number h) ∙ q))
+    by (Faulty f) h = no-answer (sym (sym (numbered-faulty s number h) ∙ q))
 
 -- a record is not empty
 pub entry-long : {s : List ℕ} {e : Entry} → Standing s e → 4 < length (e .bytes)

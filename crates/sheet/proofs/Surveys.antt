@@ -6,7 +6,8 @@
 --   survey-long, survey-short the survey is TOO LONG, or what is read from place 0
 --   flat                      records one after another
 --   behind                    what is found behind some records
---   Listed                    whole records that stand one behind another, from a place on
+--   Listed                    whole records that stand one behind another, from a place on, each where its kind may
+--   firstAfter, after-false   whether what stands behind some records is at the sheet's first byte: behind further ones it is not
 --   Ended                     how the records end, by the step behind them
 --   Parts, parts-of           what is left at a place is its records, and what stands behind them
 --   reads-flat                whole records are found as they stand, and then what is behind them
@@ -17,6 +18,7 @@
 --   parts-tail                that begins where the records end.      no-record-behind   and no record stands there
 --   end-within                the records end within the sheet
 use mathlib.Core.Path.{_≡_, refl, sym, ap, _∙_, subst}
+use mathlib.Core.Bool.{Bool, true, false}
 use mathlib.Core.List.{List, [], _∷_, _++_, append-assoc, append-nil}
 use Prim.Native.Nat.{ℕ, zero, suc, _+_, _≤_, _<_}
 use native.Mathlib.Omega.{arith}
@@ -33,76 +35,76 @@ use Rattle.record.specs.declared.kinds.Kind.{Kind}
 use Rattle.record.specs.declared.steps.Step.{Step}
 use Rattle.record.specs.declared.steps.Step.the-variants as step
 use Rattle.record.specs.Kinds.{rowOf}
-use Rattle.record.specs.Records.{longest, stepOf}
-use Rattle.record.proofs.Shown.{Whole, whole-step, step-whole}
+use Rattle.record.specs.Records.{longest, mayStand, stepOf}
+use Rattle.record.proofs.Shown.{Whole, whole-step, step-whole, step-may}
 use Rattle.sheet.specs.declared.walks.Ending.{Ending}
 use Rattle.sheet.specs.declared.walks.Ending.the-variants.{Sound, Faulty}
-use Rattle.sheet.specs.Survey.{Entry, Survey, entryAt, nothing, before, found, surveyFrom, survey, soundly, outcome}
+use Rattle.sheet.specs.Survey.{Entry, Survey, entryAt, nothing, before, found, surveyFrom, surveyOf, survey, soundly, outcome}
 
-unfolds : (most at : ℕ) (rest : List ℕ) → surveyFrom (suc most) at rest ≡ found at rest (λ size. surveyFrom most (at + size) (drop size rest)) (stepOf rest)
+unfolds : (most : ℕ) (first : Bool) (at : ℕ) (rest : List ℕ) → surveyFrom (suc most) first at rest ≡ found at rest (λ size. surveyFrom most false (at + size) (drop size rest)) (stepOf first rest)
 unfolding surveyFrom
-unfolds most at rest = refl
+unfolds most first at rest = refl
 
 -- a bound above the bytes left is no bound
-pub same-bound : (m n at : ℕ) (rest : List ℕ) → length rest < m → length rest < n → surveyFrom m at rest ≡ surveyFrom n at rest
-same-bound zero n at rest l k = absurd (not-suc-le-zero l)
-same-bound (suc m) zero at rest l k = absurd (not-suc-le-zero k)
-same-bound (suc m) (suc n) at rest l k = unfolds m at rest ∙ by-step (stepOf rest) refl (λ p t. same-bound m n p t) ∙ sym (unfolds n at rest)
+pub same-bound : (m n : ℕ) (first : Bool) (at : ℕ) (rest : List ℕ) → length rest < m → length rest < n → surveyFrom m first at rest ≡ surveyFrom n first at rest
+same-bound zero n first at rest l k = absurd (not-suc-le-zero l)
+same-bound (suc m) zero first at rest l k = absurd (not-suc-le-zero k)
+same-bound (suc m) (suc n) first at rest l k = unfolds m first at rest ∙ by-step (stepOf first rest) refl (λ p t. same-bound m n false p t) ∙ sym (unfolds n first at rest)
   where
     Later : ℕ → ℕ → Survey
-    Later most size = surveyFrom most (at + size) (drop size rest)
+    Later most size = surveyFrom most false (at + size) (drop size rest)
 
     by-step :
-        (x : Step) → stepOf rest ≡ x → ((p : ℕ) (t : List ℕ) → length t < m → length t < n → surveyFrom m p t ≡ surveyFrom n p t) →
+        (x : Step) → stepOf first rest ≡ x → ((p : ℕ) (t : List ℕ) → length t < m → length t < n → surveyFrom m false p t ≡ surveyFrom n false p t) →
         found at rest (Later m) x ≡ found at rest (Later n) x
     by-step step.Ends e f = refl
     by-step (step.Fault r offset) e f = refl
     by-step (step.Record kind) e f =
-        let w = step-whole rest kind e in
+        let w = step-whole first rest kind e in
         let size = rowOf kind .size in
         let less : length (drop size rest) < length rest = omega (arith, length-drop size rest, w .1, w .2) in
         ap (before (entryAt at rest kind)) (f (at + size) (drop size rest) (omega arith) (omega arith))
 
-unfoldable pub reads : ℕ → List ℕ → Survey
-reads at rest = surveyFrom (suc (length rest)) at rest
+unfoldable pub reads : Bool → ℕ → List ℕ → Survey
+reads first at rest = surveyFrom (suc (length rest)) first at rest
 
-module _ (at : ℕ) (rest : List ℕ) where
-  pub reads-ends : stepOf rest ≡ step.Ends → reads at rest ≡ nothing at Sound
+module _ (first : Bool) (at : ℕ) (rest : List ℕ) where
+  pub reads-ends : stepOf first rest ≡ step.Ends → reads first at rest ≡ nothing at Sound
   unfolding reads
-  reads-ends e = unfolds (length rest) at rest ∙ rw e
+  reads-ends e = unfolds (length rest) first at rest ∙ rw e
 
-  pub reads-fault : {r : Refusal} {offset : ℕ} → stepOf rest ≡ step.Fault r offset → reads at rest ≡ nothing at (Faulty (record { refusal = r; place = at + offset }))
+  pub reads-fault : {r : Refusal} {offset : ℕ} → stepOf first rest ≡ step.Fault r offset → reads first at rest ≡ nothing at (Faulty (record { refusal = r; place = at + offset }))
   unfolding reads
-  reads-fault e = unfolds (length rest) at rest ∙ rw e
+  reads-fault e = unfolds (length rest) first at rest ∙ rw e
 
-  pub reads-record : (k : Kind) → stepOf rest ≡ step.Record k → reads at rest ≡ before (entryAt at rest k) (reads (at + rowOf k .size) (drop (rowOf k .size) rest))
+  pub reads-record : (k : Kind) → stepOf first rest ≡ step.Record k → reads first at rest ≡ before (entryAt at rest k) (reads false (at + rowOf k .size) (drop (rowOf k .size) rest))
   unfolding reads
   reads-record k e =
-      let w = step-whole rest k e in
+      let w = step-whole first rest k e in
       let size = rowOf k .size in
       let less : length (drop size rest) < length rest = omega (arith, length-drop size rest, w .1, w .2) in
-      unfolds (length rest) at rest
-      ∙ rw e (ap (before (entryAt at rest k)) (same-bound (length rest) (suc (length (drop size rest))) (at + size) (drop size rest) (omega arith) (omega arith)))
+      unfolds (length rest) first at rest
+      ∙ rw e (ap (before (entryAt at rest k)) (same-bound (length rest) (suc (length (drop size rest))) false (at + size) (drop size rest) (omega arith) (omega arith)))
 
 -- where no record stands, none is found
-pub reads-stops : (at : ℕ) (rest : List ℕ) → ((k : Kind) → stepOf rest ≡ step.Record k → ⊥) → (reads at rest .records ≡ []) × (reads at rest .end ≡ at)
-reads-stops at rest n = by (stepOf rest) refl
+pub reads-stops : (first : Bool) (at : ℕ) (rest : List ℕ) → ((k : Kind) → stepOf first rest ≡ step.Record k → ⊥) → (reads first at rest .records ≡ []) × (reads first at rest .end ≡ at)
+reads-stops first at rest n = by (stepOf first rest) refl
   where
-    none : {how : Ending} → reads at rest ≡ nothing at how → (reads at rest .records ≡ []) × (reads at rest .end ≡ at)
+    none : {how : Ending} → reads first at rest ≡ nothing at how → (reads first at rest .records ≡ []) × (reads first at rest .end ≡ at)
     none e = (ap (λ (v : Survey). v .records) e, ap (λ (v : Survey). v .end) e)
 
-    by : (x : Step) → stepOf rest ≡ x → (reads at rest .records ≡ []) × (reads at rest .end ≡ at)
-    by step.Ends e = none (reads-ends at rest e)
-    by (step.Fault r offset) e = none (reads-fault at rest e)
+    by : (x : Step) → stepOf first rest ≡ x → (reads first at rest .records ≡ []) × (reads first at rest .end ≡ at)
+    by step.Ends e = none (reads-ends first at rest e)
+    by (step.Fault r offset) e = none (reads-fault first at rest e)
     by (step.Record k) e = absurd (n k e)
 
-pub survey-long : (s : List ℕ) → longest < length s → survey s ≡ nothing 0 (Faulty (record { refusal = refusal.TooLong; place = 0 }))
-unfolding survey if_then_else_
-survey-long s l = rw (lt-ltb _ _ l)
+pub survey-long : (first : Bool) (s : List ℕ) → longest < length s → surveyOf first s ≡ nothing 0 (Faulty (record { refusal = refusal.TooLong; place = 0 }))
+unfolding surveyOf if_then_else_
+survey-long first s l = rw (lt-ltb _ _ l)
 
-pub survey-short : (s : List ℕ) → length s ≤ longest → survey s ≡ reads 0 s
-unfolding survey reads if_then_else_
-survey-short s l = rw (le-ltb _ _ l)
+pub survey-short : (first : Bool) (s : List ℕ) → length s ≤ longest → surveyOf first s ≡ reads first 0 s
+unfolding surveyOf reads if_then_else_
+survey-short first s l = rw (le-ltb _ _ l)
 
 -- ---- the records one after another
 
@@ -113,75 +115,85 @@ flat (e ∷ es) = e .bytes ++ flat es
 abbrev pub behind : List Entry → Survey → Survey
 behind es v = record { records = es ++ v .records; end = v .end; ending = v .ending }
 
-abbrev pub Listed : ℕ → List Entry → Type 0
-Listed at [] = Unit {0}
-Listed at (e ∷ es) = (e .place ≡ at) × Whole (e .kind) (e .bytes) × Listed (at + length (e .bytes)) es
+abbrev pub Listed : Bool → ℕ → List Entry → Type 0
+Listed first at [] = Unit {0}
+Listed first at (e ∷ es) = (e .place ≡ at) × (mayStand first (e .kind) ≡ true) × Whole (e .kind) (e .bytes) × Listed false (at + length (e .bytes)) es
+
+abbrev pub firstAfter : Bool → List Entry → Bool
+firstAfter first [] = first
+firstAfter first (e ∷ es) = false
 
 abbrev pub Ended : ℕ → Step → Ending → Type 0
 Ended at step.Ends how = how ≡ Sound
 Ended at (step.Fault r offset) how = how ≡ Faulty (record { refusal = r; place = at + offset })
 Ended at (step.Record k) how = ⊥
 
-pub record Parts (at : ℕ) (rest : List ℕ) (v : Survey) : Type 0 where
+pub record Parts (first : Bool) (at : ℕ) (rest : List ℕ) (v : Survey) : Type 0 where
   pub tail : List ℕ
   pub parts : rest ≡ flat (v .records) ++ tail
-  pub listed : Listed at (v .records)
+  pub listed : Listed first at (v .records)
   pub end-is : v .end ≡ at + length (flat (v .records))
-  pub last : Ended (v .end) (stepOf tail) (v .ending)
+  pub last : Ended (v .end) (stepOf (firstAfter first (v .records)) tail) (v .ending)
 
-pub parts-of : (most at : ℕ) (rest : List ℕ) → length rest < most → Parts at rest (surveyFrom most at rest)
-parts-of zero at rest l = absurd (not-suc-le-zero l)
-parts-of (suc most) at rest l = subst (Parts at rest) (sym (unfolds most at rest)) (by-step (stepOf rest) refl (λ p t. parts-of most p t))
+-- behind further records nothing is at the first byte
+pub after-false : (es : List Entry) → firstAfter false es ≡ false
+after-false [] = refl
+after-false (e ∷ es) = refl
+
+pub parts-of : (most : ℕ) (first : Bool) (at : ℕ) (rest : List ℕ) → length rest < most → Parts first at rest (surveyFrom most first at rest)
+parts-of zero first at rest l = absurd (not-suc-le-zero l)
+parts-of (suc most) first at rest l = subst (Parts first at rest) (sym (unfolds most first at rest)) (by-step (stepOf first rest) refl (λ p t. parts-of most false p t))
   where
     Later : ℕ → Survey
-    Later size = surveyFrom most (at + size) (drop size rest)
+    Later size = surveyFrom most false (at + size) (drop size rest)
 
-    none : (how : Ending) → Ended at (stepOf rest) how → Parts at rest (nothing at how)
+    none : (how : Ending) → Ended at (stepOf first rest) how → Parts first at rest (nothing at how)
     none how e = record { tail = rest; parts = refl; listed = tt; end-is = omega arith; last = e }
 
-    by-step : (x : Step) → stepOf rest ≡ x → ((p : ℕ) (t : List ℕ) → length t < most → Parts p t (surveyFrom most p t)) → Parts at rest (found at rest Later x)
+    by-step : (x : Step) → stepOf first rest ≡ x → ((p : ℕ) (t : List ℕ) → length t < most → Parts false p t (surveyFrom most false p t)) → Parts first at rest (found at rest Later x)
     by-step step.Ends q f = none Sound (rw q refl)
     by-step (step.Fault r offset) q f = none (Faulty (record { refusal = r; place = at + offset })) (rw q refl)
     by-step (step.Record k) q f =
-        let w = step-whole rest k q in
+        let w = step-whole first rest k q in
         let size = rowOf k .size in
         let long = w .0 .long in
         let h = f (at + size) (drop size rest) (omega (arith, length-drop size rest, w .1, w .2)) in
         record {
           tail = h .tail;
           parts = sym (take-append-drop size rest) ∙ ap (λ (y : List ℕ). take size rest ++ y) (h .parts) ∙ sym (append-assoc (take size rest) (flat (Later size .records)) (h .tail));
-          listed = (refl, w .0, subst (λ (n : ℕ). Listed (at + n) (Later size .records)) (sym long) (h .listed));
+          listed = (refl, step-may first rest k q, w .0, subst (λ (n : ℕ). Listed false (at + n) (Later size .records)) (sym long) (h .listed));
           end-is = omega (arith, h .end-is, long, length-append (take size rest) (flat (Later size .records)));
-          last = h .last;
+          last = subst (λ (b : Bool). Ended (Later size .end) (stepOf b (h .tail)) (Later size .ending)) (after-false (Later size .records)) (h .last);
         }
 
 -- whole records are found as they stand, whatever is behind them
-pub reads-flat : (at : ℕ) (es : List Entry) (tail : List ℕ) → Listed at es → reads at (flat es ++ tail) ≡ behind es (reads (at + length (flat es)) tail)
-reads-flat at [] tail w = ap (λ (n : ℕ). reads n tail) (omega arith)
-reads-flat at (x ∷ xs) tail w =
+pub reads-flat : (first : Bool) (at : ℕ) (es : List Entry) (tail : List ℕ) → Listed first at es → reads first at (flat es ++ tail) ≡ behind es (reads (firstAfter first es) (at + length (flat es)) tail)
+reads-flat first at [] tail w = ap (λ (n : ℕ). reads first n tail) (omega arith)
+reads-flat first at (x ∷ xs) tail w =
     let rest = flat xs ++ tail in
     let a : flat (x ∷ xs) ++ tail ≡ x .bytes ++ rest = append-assoc (x .bytes) (flat xs) tail in
-    let long = w .1 .long in
+    let long = w .2 .long in
     let size = rowOf (x .kind) .size in
-    let first : entryAt at (x .bytes ++ rest) (x .kind) ≡ x =
+    let same : entryAt at (x .bytes ++ rest) (x .kind) ≡ x =
     λ i. record { place = sym (w .0) i; kind = x .kind; bytes = take-at (x .bytes) rest size long i }
     in
     let back : drop size (x .bytes ++ rest) ≡ rest = drop-at (x .bytes) rest size long in
-    let later = reads-flat (at + length (x .bytes)) xs tail (w .2) in
-    ap (reads at) a
-    ∙ reads-record at (x .bytes ++ rest) (x .kind) (whole-step (w .1) rest)
-    ∙ (λ i. before (first i) (reads (at + sym long i) (back i)))
+    let later = reads-flat false (at + length (x .bytes)) xs tail (w .3) in
+    ap (reads first at) a
+    ∙ reads-record first at (x .bytes ++ rest) (x .kind) (whole-step first (w .1) (w .2) rest)
+    ∙ (λ i. before (same i) (reads false (at + sym long i) (back i)))
     ∙ ap (before x) later
-    ∙ ap (λ (n : ℕ). behind (x ∷ xs) (reads n tail)) (omega (arith, length-append (x .bytes) (flat xs)))
+    ∙ ap (λ (b : Bool). behind (x ∷ xs) (reads b (at + length (x .bytes) + length (flat xs)) tail)) (after-false xs)
+    ∙ ap (λ (n : ℕ). behind (x ∷ xs) (reads false n tail)) (omega (arith, length-append (x .bytes) (flat xs)))
 
-pub survey-of : (s : List ℕ) (es : List Entry) (tail : List ℕ) → length s ≤ longest → s ≡ flat es ++ tail → Listed 0 es → stepOf tail ≡ step.Ends
+pub survey-of : (s : List ℕ) (es : List Entry) (tail : List ℕ) → length s ≤ longest → s ≡ flat es ++ tail → Listed true 0 es → stepOf (firstAfter true es) tail ≡ step.Ends
     → survey s ≡ record { records = es; end = length (flat es); ending = Sound }
 survey-of s es tail l p w e =
     let end : 0 + length (flat es) ≡ length (flat es) = omega arith in
-    survey-short s l
-    ∙ ap (reads 0) p
-    ∙ reads-flat 0 es tail w
-    ∙ ap (behind es) (reads-ends (0 + length (flat es)) tail e)
+    survey-short true s l
+    ∙ ap (reads true 0) p
+    ∙ reads-flat true 0 es tail w
+    ∙ ap (behind es) (reads-ends (firstAfter true es) (0 + length (flat es)) tail e)
     ∙ (λ i. record { records = append-nil es i; end = end i; ending = Sound })
 
 -- ---- what an outcome says
@@ -206,29 +218,31 @@ faulty-once e = cc
 pub short-of : (s : List ℕ) → survey s .ending ≡ Sound → length s ≤ longest
 short-of s e =
     by-order (length s) longest (λ l. l) (λ l.
-    let q : Faulty (record { refusal = refusal.TooLong; place = 0 }) ≡ Sound = sym (ap (λ (v : Survey). v .ending) (survey-long s l)) ∙ e in
+    let q : Faulty (record { refusal = refusal.TooLong; place = 0 }) ≡ Sound = sym (ap (λ (v : Survey). v .ending) (survey-long true s l)) ∙ e in
     let z : _≡_ {A = ℕ} 0 1 = cc in
     absurd (omega arith))
 
-pub sheet-parts : (s : List ℕ) → length s ≤ longest → Parts 0 s (survey s)
+pub sheet-parts : (first : Bool) (s : List ℕ) → length s ≤ longest → Parts first 0 s (surveyOf first s)
 unfolding reads
-sheet-parts s l = subst (Parts 0 s) (sym (survey-short s l)) (parts-of (suc (length s)) 0 s (omega arith))
+sheet-parts first s l = subst (Parts first 0 s) (sym (survey-short first s l)) (parts-of (suc (length s)) first 0 s (omega arith))
 
 -- ---- what stands behind the records
 
-pub parts-tail : (s : List ℕ) → length s ≤ longest → (p : Parts 0 s (survey s)) → p .tail ≡ drop (survey s .end) s
-parts-tail s l p =
-    sym (ap (drop (survey s .end)) (p .parts) ∙ drop-at (flat (survey s .records)) (p .tail) (survey s .end) (omega (arith, p .end-is)))
+pub parts-tail : (first : Bool) (s : List ℕ) → length s ≤ longest → (p : Parts first 0 s (surveyOf first s)) → p .tail ≡ drop (surveyOf first s .end) s
+parts-tail first s l p =
+    let v = surveyOf first s in
+    sym (ap (drop (v .end)) (p .parts) ∙ drop-at (flat (v .records)) (p .tail) (v .end) (omega (arith, p .end-is)))
 
-pub no-record-behind : (s : List ℕ) → length s ≤ longest → (k : Kind) → stepOf (drop (survey s .end) s) ≡ step.Record k → ⊥
-no-record-behind s l k e =
-    let p = sheet-parts s l in
-    subst (λ (x : Step). Ended (survey s .end) x (survey s .ending)) (ap stepOf (parts-tail s l p) ∙ e) (p .last)
+pub no-record-behind : (first : Bool) (s : List ℕ) → length s ≤ longest → (k : Kind) → stepOf (firstAfter first (surveyOf first s .records)) (drop (surveyOf first s .end) s) ≡ step.Record k → ⊥
+no-record-behind first s l k e =
+    let p = sheet-parts first s l in
+    let v = surveyOf first s in
+    subst (λ (x : Step). Ended (v .end) x (v .ending)) (ap (stepOf (firstAfter first (v .records))) (parts-tail first s l p) ∙ e) (p .last)
 
-pub end-within : (s : List ℕ) → survey s .end ≤ length s
-end-within s =
+pub end-within : (first : Bool) (s : List ℕ) → surveyOf first s .end ≤ length s
+end-within first s =
     by-order (length s) longest
     (λ l.
-    let p = sheet-parts s l in
-    omega (arith, p .end-is, ap length (p .parts), length-append (flat (survey s .records)) (p .tail)))
-    (λ l. omega (arith, ap (λ (v : Survey). v .end) (survey-long s l)))
+    let p = sheet-parts first s l in
+    omega (arith, p .end-is, ap length (p .parts), length-append (flat (surveyOf first s .records)) (p .tail)))
+    (λ l. omega (arith, ap (λ (v : Survey). v .end) (survey-long first s l)))

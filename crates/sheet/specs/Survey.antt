@@ -4,23 +4,31 @@
 --   entryAt          the record of a kind at a place, of which `rest` is left
 --   nothing, before  no record, and how it ends; a record before what is found behind it
 --   found            what a step at a place finds
---   surveyFrom       what is found from a place on
+--   surveyFrom       what is found from a place on, at the sheet's first byte or behind it
+--   surveyOf         what is found in bytes that begin a sheet, or that stand further on
 --   survey           what is found in a sheet
 --   soundly          what a sound sheet gives; a faulty one is refused with its fault
 --   outcome          the records of a sound sheet
 --   curves           those that are curves
---   nth, chosen      curve `number`, from 1, of some records, and of a sheet
+--   nth, numbered    curve `number`, from 1, of some records, and of a sheet, whatever its mission
+--   missionOf        the mission of some records: their header's number
+--   isOther          a mission is another than the one that is expected
+--   chosen           curve `number` of a sheet of the expected mission
+use mathlib.Core.Bool.{Bool, true, false, not}
 use mathlib.Core.List.{List, [], _∷_}
 use Prim.Native.Nat.{ℕ, zero, suc, _+_}
-use lib.Dec.{ltb}
+use lib.Dec.{ltb, eqb}
 use lib.ListN.{length, take, drop}
 use Rattle.refusal.specs.declared.Refusal.the-variants as refusal
 use Rattle.refusal.specs.Answers.{Answer, refused, given, refuse, then-given, if_then_else_}
 use Rattle.record.specs.declared.kinds.Kind.{Kind}
 use Rattle.record.specs.declared.steps.Step.{Step}
 use Rattle.record.specs.declared.steps.Step.the-variants as step
+use Rattle.record.specs.Numbers.{missionIn}
 use Rattle.record.specs.Kinds.{rowOf}
 use Rattle.record.specs.Records.{longest, stepOf}
+use Rattle.sheet.specs.declared.Mission.{Mission}
+use Rattle.sheet.specs.declared.Mission.the-variants as mission
 use Rattle.sheet.specs.declared.walks.Ending.{Ending}
 use Rattle.sheet.specs.declared.walks.Ending.the-variants.{Sound, Faulty}
 
@@ -49,14 +57,17 @@ found at rest later (step.Fault r offset) = nothing at (Faulty (record { refusal
 found at rest later (step.Record k) = before (entryAt at rest k) (later (rowOf k .size))
 
 -- the first number bounds how many records are looked at
-unfoldable pub surveyFrom : ℕ → ℕ → List ℕ → Survey
-surveyFrom zero at rest = nothing at Sound
-surveyFrom (suc most) at rest = found at rest (λ size. surveyFrom most (at + size) (drop size rest)) (stepOf rest)
+unfoldable pub surveyFrom : ℕ → Bool → ℕ → List ℕ → Survey
+surveyFrom zero first at rest = nothing at Sound
+surveyFrom (suc most) first at rest = found at rest (λ size. surveyFrom most false (at + size) (drop size rest)) (stepOf first rest)
 
--- a sheet has no more records than bytes
-unfoldable pub survey : List ℕ → Survey
-survey s =
-    if ltb longest (length s) then nothing 0 (Faulty (record { refusal = refusal.TooLong; place = 0 })) else surveyFrom (suc (length s)) 0 s
+-- there are no more records than bytes
+unfoldable pub surveyOf : Bool → List ℕ → Survey
+surveyOf first s =
+    if ltb longest (length s) then nothing 0 (Faulty (record { refusal = refusal.TooLong; place = 0 })) else surveyFrom (suc (length s)) first 0 s
+
+abbrev pub survey : List ℕ → Survey
+survey s = surveyOf true s
 
 abbrev pub soundly : {A : Type 0} → Ending → A → Answer A
 soundly Sound a = given a
@@ -75,5 +86,19 @@ nth zero (e ∷ es) = refuse refusal.Number 0
 nth (suc zero) (e ∷ es) = given e
 nth (suc (suc k)) (e ∷ es) = nth (suc k) es
 
-abbrev pub chosen : ℕ → List ℕ → Answer Entry
-chosen number s = then-given (λ es. nth number (curves es)) (outcome s)
+abbrev pub numbered : ℕ → List ℕ → Answer Entry
+numbered number s = then-given (λ es. nth number (curves es)) (outcome s)
+
+-- the first record of a sheet is its header
+abbrev pub missionOf : List Entry → Mission
+missionOf [] = mission.None
+missionOf (e ∷ es) = mission.Number (missionIn (e .bytes))
+
+-- a sheet without a mission is no other mission
+abbrev pub isOther : ℕ → Mission → Bool
+isOther expected mission.None = false
+isOther expected (mission.Number m) = not (eqb m expected)
+
+abbrev pub chosen : ℕ → ℕ → List ℕ → Answer Entry
+chosen expected number s =
+    then-given (λ es. if isOther expected (missionOf es) then refuse refusal.OtherMission 0 else nth number (curves es)) (outcome s)

@@ -50,19 +50,20 @@ fn faulty(curves: usize, end: usize, from: usize, to: usize, fault: Fault) -> Wa
     }
 }
 
-// The one walk over a sheet's records. It remembers where curve `number`, from 1, stands.
-pub fn walk(sheet: &[u8], number: usize) -> Walked
-    ensures { λ r. ⌜ Walks (now (sheet .entry)) number r ⌝ }
+// The one walk over a sheet's records, from its first byte or from a later record on. It remembers where curve `number`, from 1, stands.
+pub fn walk(sheet: &[u8], first: bool, number: usize) -> Walked
+    ensures { λ r. ⌜ Walks (now (sheet .entry)) first number r ⌝ }
 {
     if sheet.len() > LONGEST {
         return faulty(0, 0, 0, 0, nowhere(Refusal::TooLong));
     }
+    let mut first = first;
     let mut at: usize = 0;
     let mut curves: usize = 0;
     let mut from: usize = 0;
     let mut to: usize = 0;
     loop {
-        match step_of(&sheet[at..]) {
+        match step_of(&sheet[at..], first) {
             Step::Ends => {
                 return sound(curves, at, from, to);
             }
@@ -81,6 +82,7 @@ pub fn walk(sheet: &[u8], number: usize) -> Walked
                     }
                 }
                 at = end;
+                first = false;
             }
         }
     }

@@ -1,7 +1,7 @@
 -- What each call on a sheet promises. r is what it returns; s and t are the sheet, before and after a lent area, as they were and as they are left.
 --   numbersOfEntry, placeNumbers   what read and find hand over of a record
 --   countOfChange                  a sheet that was written gives nothing to count
---   CheckCall, ReadCall, FindCall, EraseCall, AppendCall, ReportCall   the calls
+--   CheckCall, ReadCall, FindCall, StartForCall, EraseCall, AppendCall, ReportCall   the calls
 use mathlib.Core.Path.{_≡_}
 use mathlib.Core.List.{List, map}
 use Prim.Native.Nat.{ℕ}
@@ -12,7 +12,7 @@ use Rattle.record.specs.Kinds.{numbersOf}
 use Rattle.sheet.specs.declared.Change.{Change}
 use Rattle.sheet.specs.declared.Change.the-variants as change
 use Rattle.sheet.specs.Survey.{Entry, outcome, chosen}
-use Rattle.sheet.specs.Promise.{countOf, pointsOfEntry, placeOf, Erases, Appends}
+use Rattle.sheet.specs.Promise.{countOf, pointsOfEntry, placeOf, StartsFor, Erases, Appends}
 use Rattle.text.specs.Promise.{answerOfText}
 use Rattle.report_text.specs.Promise.{Reported}
 use Rattle.hand.specs.Promise.{coded, Hands, Counted, OnCurve}
@@ -30,11 +30,14 @@ countOfChange (change.Refused f) = refused f
 abbrev pub CheckCall : List ℕ → ℤ → Type 0
 CheckCall s r = r ≡ coded (with-given countOf (outcome s))
 
-abbrev pub ReadCall : List ℕ → ℕ → List ℤ → List ℤ → ℤ → Type 0
-ReadCall s number = Hands (with-given numbersOfEntry (chosen number s))
+abbrev pub ReadCall : List ℕ → ℕ → ℕ → List ℤ → List ℤ → ℤ → Type 0
+ReadCall s mission number = Hands (with-given numbersOfEntry (chosen mission number s))
 
-abbrev pub FindCall : List ℕ → ℕ → List ℤ → List ℤ → ℤ → Type 0
-FindCall s number = Hands (with-given placeNumbers (chosen number s))
+abbrev pub FindCall : List ℕ → ℕ → ℕ → List ℤ → List ℤ → ℤ → Type 0
+FindCall s mission number = Hands (with-given placeNumbers (chosen mission number s))
+
+abbrev pub StartForCall : List ℕ → ℕ → List ℕ → ℤ → Type 0
+StartForCall s mission t = Counted (StartsFor s mission t) countOfChange
 
 abbrev pub EraseCall : List ℕ → List ℕ → ℤ → Type 0
 EraseCall s t = Counted (Erases s t) countOfChange

@@ -1,7 +1,7 @@
 // The calls on sheets for C, over numbers: `yard` exports them, and include/yard.h has a comment for each.
 ghost use mathlib.Core.Path.{_≡_};
 ghost use Rattle.hand.specs.Promise.{coded as codeOf};
-ghost use Rattle.sheet_calls.specs.Promise.{countOfChange, CheckCall, ReadCall, FindCall, EraseCall, AppendCall, ReportCall};
+ghost use Rattle.sheet_calls.specs.Promise.{countOfChange, CheckCall, ReadCall, FindCall, StartForCall, EraseCall, AppendCall, ReportCall};
 use hand::Given;
 use hand::coded;
 use hand::curve_in;
@@ -22,24 +22,24 @@ pub fn check(s: &[u8]) -> i64
     ensures { λ r. ⌜ CheckCall (now (s .entry)) r ⌝ }
 {
     match sheet::check(s) {
-        Checked::Curves(n) => n as i64,
+        Checked::Sheet { mission: _, curves } => curves as i64,
         Checked::Refused(f) => coded(f),
     }
 }
 
-pub fn read(s: &[u8], number: u64, out: &mut [i64]) -> i64
-    ensures { λ r. ⌜ ReadCall (now (s .entry)) number (now (out .entry)) (now (out .exit)) r ⌝ }
+pub fn read(s: &[u8], mission: u16, number: u64, out: &mut [i64]) -> i64
+    ensures { λ r. ⌜ ReadCall (now (s .entry)) mission number (now (out .entry)) (now (out .exit)) r ⌝ }
 {
-    match sheet::read(s, number as usize) {
+    match sheet::read(s, mission, number as usize) {
         Reading::Points(curve) => hand_curve(out, curve),
         Reading::Refused(f) => faulted(out, f),
     }
 }
 
-pub fn find(s: &[u8], number: u64, out: &mut [i64]) -> i64
-    ensures { λ r. ⌜ FindCall (now (s .entry)) number (now (out .entry)) (now (out .exit)) r ⌝ }
+pub fn find(s: &[u8], mission: u16, number: u64, out: &mut [i64]) -> i64
+    ensures { λ r. ⌜ FindCall (now (s .entry)) mission number (now (out .entry)) (now (out .exit)) r ⌝ }
 {
-    match locate(s, number as usize) {
+    match locate(s, mission, number as usize) {
         Location::At { place, length } => {
             let xs = [place as i64, length as i64];
             hand(out, &xs)
@@ -56,6 +56,12 @@ fn changed(change: Change) -> i64
         Change::Done => 0,
         Change::Refused(f) => coded(f),
     }
+}
+
+pub fn start(s: &mut [u8], mission: u16) -> i64
+    ensures { λ r. ⌜ StartForCall (now (s .entry)) mission (now (s .exit)) r ⌝ }
+{
+    changed(sheet::start(s, mission))
 }
 
 pub fn erase(s: &mut [u8]) -> i64

@@ -15,22 +15,22 @@ use Rattle.record.specs.declared.steps.Step.{Step}
 use Rattle.record.specs.declared.steps.Step.the-variants as step
 use Rattle.record.specs.Records.{longest, erasedEnd}
 use Rattle.sheet.specs.declared.walks.Ending.the-variants.{Faulty}
-use Rattle.sheet.specs.Survey.{survey}
+use Rattle.sheet.specs.Survey.{surveyOf}
 use Rattle.sheet.proofs.Faults.{fault-inside}
 use Rattle.states.specs.declared.State.{State}
-use Rattle.states.specs.Steps.{behindIn, heldIn, frontIn, answerWith, answerIn, Standing}
+use Rattle.states.specs.Steps.{firstIn, behindIn, heldIn, frontIn, answerWith, answerIn, Standing}
 use Rattle.states.proofs.Fronts.{seven-words, held-long}
 
 module _ {st : State} (h : Standing st) where
   pub front-long : length (frontIn st) ≡ heldIn st
   front-long = held-long st (seven-words st (h .front))
 
-  pub answer-by : answerIn st ≡ answerWith st (survey (frontIn st) .ending)
+  pub answer-by : answerIn st ≡ answerWith st (surveyOf (firstIn st) (frontIn st) .ending)
   unfolding answerIn if_then_else_
   answer-by = rw (le-ltb longest (st .count) (h .short))
 
-  pub fault-within : (f : Fault) → survey (frontIn st) .ending ≡ Faulty f → st .place + f .place ≤ longest
-  fault-within f e = omega (arith, fault-inside (frontIn st) f (omega (arith, front-long)) e, front-long, h .inside, h .short)
+  pub fault-within : (f : Fault) → surveyOf (firstIn st) (frontIn st) .ending ≡ Faulty f → st .place + f .place ≤ longest
+  fault-within f e = omega (arith, fault-inside (firstIn st) (frontIn st) f (omega (arith, front-long)) e, front-long, h .inside, h .short)
 
   pub leftover-within : (r : Refusal) (offset : ℕ) → erasedEnd (st .erased) (behindIn st) ≡ step.Fault r offset → st .place + offset ≤ longest
   unfolding erasedEnd

@@ -1,9 +1,10 @@
--- Bytes with a given state: records of still curves, then the bytes that the state has, then bytes FF, then zeros.
+-- Bytes with a given state: a header and records of still curves, or no record, then the bytes that the state has, then bytes FF, then zeros.
 --   lies-state    the state is that of these bytes
 use mathlib.Core.Path.{_≡_, refl, sym, ap, _∙_}
-use mathlib.Core.Bool.{Bool}
+use mathlib.Core.Bool.{Bool, true}
 use mathlib.Core.List.{List, [], _∷_, _++_, append-nil}
-use Prim.Native.Nat.{ℕ, zero, suc, _+_, _-_, _*_}
+use mathlib.Core.Logic.{inl, inr}
+use Prim.Native.Nat.{ℕ, zero, suc, _+_, _-_, _*_, _<_}
 use native.Mathlib.Omega.{arith}
 use lib.IntN.{pos}
 use lib.ListN.{length, take, drop, replicate, length-append, length-replicate}
@@ -17,24 +18,26 @@ use Rattle.pair.specs.Pairs.{pair, PartsWithin}
 use Rattle.curve.specs.declared.Curve.{Curve}
 use Rattle.curve.specs.declared.Curve.the-variants as form
 use Rattle.record.specs.declared.kinds.Kind.{Kind}
+use Rattle.record.specs.declared.kinds.Kind.the-variants as kinds
 use Rattle.record.specs.declared.steps.Step.the-variants as step
 use Rattle.record.specs.Numbers.{AllBytes}
-use Rattle.record.specs.Kinds.{rowOf, kindOf, recordOf, longestRecord}
+use Rattle.record.specs.Kinds.{rowOf, kindOf, headerOf, recordOf, longestRecord}
 use Rattle.record.specs.Records.{erased, erasedBytes, stepOf}
 use Rattle.record.proofs.Table.{row-known}
 use Rattle.record.proofs.Formed.{record-long}
+use Rattle.record.proofs.Headers.{header-mission}
 use Rattle.record.proofs.Words.{all-append, all-take, all-replicate, all-record}
 use Rattle.record.proofs.Front.{front-by-record, erased-within, erased-append, erased-replicate}
-use Rattle.sheet.specs.Survey.{Entry, Survey, survey}
+use Rattle.sheet.specs.Survey.{Entry, Survey, survey, missionOf}
 use Rattle.sheet.specs.Promise.{countOf}
-use Rattle.sheet.proofs.Surveys.{reads, reads-flat, reads-stops, survey-short, flat, behind}
-use Rattle.sheet.proofs.Examples.{laid, AllInRange, laid-listed}
+use Rattle.sheet.proofs.Surveys.{reads, reads-flat, reads-stops, survey-short, flat, Listed, behind}
+use Rattle.sheet.proofs.Examples.{laid, laidOut, AllInRange, out-listed}
 use Rattle.states.specs.declared.State.{State}
 use Rattle.states.specs.Words.{packed, unpacked}
-use Rattle.states.specs.States.{number, keeping, IsOf}
-use Rattle.states.specs.Steps.{behindIn, heldIn, frontIn, Standing}
+use Rattle.states.specs.States.{number, missionNumber, keeping, IsOf}
+use Rattle.states.specs.Steps.{firstIn, behindIn, heldIn, frontIn, RecordsEnd, Standing}
 use Rattle.states.proofs.Packed.{unpacked-bytes}
-use Rattle.states.proofs.Fronts.{state-short, take-over, seven-words, held-long, starts-some}
+use Rattle.states.proofs.Fronts.{state-short, take-over, first-listed, seven-words, held-long, starts-some}
 
 abbrev still : Pair
 still = pair (pos 0) (pos 0)
@@ -88,6 +91,43 @@ stills-long at (suc c) q = one-long at stillCubic (stills c q) ∙ omega (arith,
 laid-bytes : (at : ℕ) (cs : List Curve) → AllBytes (flat (laid at cs))
 laid-bytes at [] = tt
 laid-bytes at (c ∷ cs) = all-append (recordOf c) (flat (laid (at + length (recordOf c)) cs)) (all-record c) (laid-bytes (at + length (recordOf c)) cs)
+
+-- what the header adds to the records
+header-count : (m : ℕ) (cs : List Curve) → countOf (laidOut m cs) ≡ countOf (laid (rowOf kinds.Header .size) cs)
+unfolding if_then_else_
+header-count m cs = refl
+
+header-bytes : (m : ℕ) → m < 65536 → AllBytes (headerOf m)
+header-bytes m l = (omega arith, (omega arith, (omega arith, (omega arith, (omega arith, (omega arith, tt))))))
+
+-- records that end where those of a state do
+record Lying (st : State) : Type 0 where
+  es : List Entry
+  listed : Listed true 0 es
+  bytes : AllBytes (flat es)
+  long : length (flat es) ≡ st .place
+  mission-is : missionNumber (missionOf es) ≡ st .mission
+  curves-are : countOf es ≡ st .curves
+
+lying : (st : State) → Standing st → Lying st
+lying st p = by (p .records)
+  where
+    by : RecordsEnd (st .curves) (st .place) → Lying st
+    by (inl h) = record { es = []; listed = tt; bytes = tt; long = sym (h .0); mission-is = sym (p .mission .none (h .0)); curves-are = sym (h .1) }
+    by (inr h) =
+        let c = h .1 .cubics in
+        let q = h .1 .quintics in
+        let m = st .mission in
+        let size = rowOf kinds.Header .size in
+        let later = laid size (stills c q) in
+        record {
+          es = laidOut m (stills c q);
+          listed = out-listed m (stills c q) (stills-range c q);
+          bytes = all-append (headerOf m) (flat later) (header-bytes m (p .mission .two-bytes)) (laid-bytes size (stills c q));
+          long = omega (arith, length-append (headerOf m) (flat later), stills-long size c q, h .0, h .1 .long-is);
+          mission-is = header-mission m;
+          curves-are = header-count m (stills c q) ∙ stills-count size c q ∙ sym (h .1 .all);
+        }
 
 -- bytes FF and then zeros
 erased-then : (a b : ℕ) → erasedBytes (replicate a erased ++ replicate b 0) ≡ a
@@ -156,57 +196,54 @@ module _ (st : State) (p : Standing st) where
       (λ e. omega (arith, eqb-true (erasedBytes front) (length front) e, erased-then more zeros, front-long, p .front .erased-is, p .front .erased-inside))
       (λ e. let n = eqb-false (erasedBytes front) (length front) e in omega (arith, erased-within front, front-long, p .front .erased-is))
 
-  rest-stops : (k : Kind) → stepOf rest ≡ step.Record k → ⊥
+  rest-stops : (k : Kind) → stepOf (firstIn st) rest ≡ step.Record k → ⊥
   rest-stops k e =
-      let here : stepOf front ≡ step.Record k = ap stepOf (sym rest-front) ∙ front-by-record rest k e in
-      omega (arith, p .front .no-record, starts-some front k (omega (arith, front-long)) here, row-known k .long)
+      let here : stepOf (firstIn st) front ≡ step.Record k = ap (stepOf (firstIn st)) (sym rest-front) ∙ front-by-record (firstIn st) rest k e in
+      omega (arith, p .front .no-record, starts-some (firstIn st) front k (omega (arith, front-long)) here, row-known k .long)
 
   rest-bytes : AllBytes rest
   rest-bytes =
       all-append front tail (all-take (heldIn st) (unpacked (st .words)) (unpacked-bytes (st .words)))
       (all-append (replicate more erased) (replicate zeros 0) (all-replicate more erased (omega arith)) (all-replicate zeros 0 (omega arith)))
 
-  abbrev es : List Entry
-  es = laid 0 (stills (p .records .cubics) (p .records .quintics))
+  records : Lying st
+  records = lying st p
+
+  abbrev before : List Entry
+  before = records .es
 
   abbrev lies : List ℕ
-  lies = flat es ++ rest
-
-  records-long : length (flat es) ≡ st .place
-  records-long = stills-long 0 (p .records .cubics) (p .records .quintics) ∙ sym (p .records .long)
+  lies = flat before ++ rest
 
   lies-long : length lies ≡ st .count
-  lies-long = omega (arith, length-append (flat es) rest, records-long, rest-long, p .inside)
+  lies-long = omega (arith, length-append (flat before) rest, records .long, rest-long, p .inside)
 
-  lies-bytes : AllBytes lies
-  lies-bytes = all-append (flat es) rest (laid-bytes 0 (stills (p .records .cubics) (p .records .quintics))) rest-bytes
-
-  found : survey lies ≡ behind es (reads (st .place) rest)
+  found : survey lies ≡ behind before (reads (firstIn st) (st .place) rest)
   found =
-      survey-short lies (omega (arith, lies-long, p .short))
-      ∙ reads-flat 0 es rest (laid-listed 0 (stills (p .records .cubics) (p .records .quintics)) (stills-range (p .records .cubics) (p .records .quintics)))
-      ∙ ap (λ (n : ℕ). behind es (reads n rest)) (omega (arith, records-long))
+      survey-short true lies (omega (arith, lies-long, p .short))
+      ∙ reads-flat true 0 before rest (records .listed)
+      ∙ (λ i. behind before (reads (first-listed before (records .listed) (sym (records .long)) i) (there i) rest))
+    where
+      there : 0 + length (flat before) ≡ st .place
+      there = omega (arith, records .long)
 
   pub lies-state : (ended : Bool) → st .ended ≡ number ended → (s : List ℕ) × IsOf st s ended
   lies-state ended e =
-      let stops = reads-stops (st .place) rest rest-stops in
+      let stops = reads-stops (firstIn st) (st .place) rest rest-stops in
+      let all : survey lies .records ≡ before = ap (λ (v : Survey). v .records) found ∙ ap (λ (l : List Entry). before ++ l) (stops .0) ∙ append-nil before in
       let ends : survey lies .end ≡ st .place = ap (λ (v : Survey). v .end) found ∙ stops .1 in
-      let counts : countOf (survey lies .records) ≡ st .curves =
-      ap (λ (v : Survey). countOf (v .records)) found
-      ∙ ap (λ (l : List Entry). countOf (es ++ l)) (stops .0)
-      ∙ ap countOf (append-nil es)
-      ∙ stills-count 0 (p .records .cubics) (p .records .quintics)
-      ∙ sym (p .records .all)
-      in
-      let left : drop (survey lies .end) lies ≡ rest = ap (λ (n : ℕ). drop n lies) ends ∙ drop-at (flat es) rest (st .place) records-long in (
+      let own : missionNumber (missionOf (survey lies .records)) ≡ st .mission = ap (λ (l : List Entry). missionNumber (missionOf l)) all ∙ records .mission-is in
+      let counts : countOf (survey lies .records) ≡ st .curves = ap countOf all ∙ records .curves-are in
+      let left : drop (survey lies .end) lies ≡ rest = ap (λ (n : ℕ). drop n lies) ends ∙ drop-at (flat before) rest (st .place) (records .long) in (
         lies,
         record {
-          bytes = lies-bytes;
+          bytes = all-append (flat before) rest (records .bytes) rest-bytes;
           is = sym (state-short lies ended (omega (arith, lies-long, p .short))
-              ∙ (λ i. keeping ended (lies-long i) (counts i) (ends i) (left i))
+              ∙ (λ i. keeping ended (lies-long i) (own i) (counts i) (ends i) (left i))
               ∙ (λ i. record {
                 ended = sym e i;
                 count = st .count;
+                mission = st .mission;
                 curves = st .curves;
                 place = st .place;
                 erased = rest-erased i;

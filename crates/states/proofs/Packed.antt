@@ -1,6 +1,7 @@
 -- Bytes packed into words, and back again.
 --   packed-long, unpacked-long    how many words, and how many bytes
 --   unpacked-bytes     the bytes of words are bytes
+--   byte-at            each byte is below 256
 --   packed-back        bytes packed into words, and taken out again
 --   AllSmall, packed-small    the words of bytes have 64 bits
 use mathlib.Core.Path.{_≡_, refl, ap, _∙_}
@@ -43,7 +44,7 @@ halves-longs [] e = refl
 halves-longs (a ∷ []) e = absurd e
 halves-longs (a ∷ b ∷ ws) e = λ i. low-half a b (e .0) i ∷ high-half a b (e .0) i ∷ halves-longs ws (e .1) i
 
-byte-at : (bytes : List ℕ) → AllBytes bytes → (i : ℕ) → getD bytes i 0 < 256
+pub byte-at : (bytes : List ℕ) → AllBytes bytes → (i : ℕ) → getD bytes i 0 < 256
 byte-at [] h i = omega arith
 byte-at (b ∷ bytes) h zero = h .0
 byte-at (b ∷ bytes) h (suc i) = byte-at bytes (h .1) i

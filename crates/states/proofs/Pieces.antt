@@ -1,7 +1,7 @@
 -- Lists that are written over, as the loops leave them.
 --   filled          as much of a part as there is room for
 --   unpacked-more, unpacked-all     words written one behind another, after i turns and after all
---   packed-zeros    zeros behind the bytes change no word
+--   packed-zeros, mission-padded    zeros behind the bytes change no word, and no mission's number
 --   padded-all, unpacked-padded, joined-padded   bytes with zeros behind them: how many they are; the bytes of packed words, and of a part over
 --                   them
 --   padded-long, packed-padded      bytes, as far as the longest record goes, over zeros: how many there are, and their words
@@ -13,7 +13,7 @@ use native.Mathlib.Numerals.{add-one}
 use lib.ListN.{length, getD, take, drop, replicate, drop-of-length-le, length-replicate, replicate-append-replicate, length-append, length-take, length-drop, List·getD-append, List·getD-eq-default, getD-replicate}
 use lib.Seq.{ext-getD, getD-drop, take-all, take-at, drop-at, take-suc, take-length, length-take-le, getD-append-add}
 use Rattle.refusal.proofs.Answers.{by-order}
-use Rattle.record.specs.Numbers.{AllBytes, written}
+use Rattle.record.specs.Numbers.{AllBytes, missionIn, written}
 use Rattle.record.proofs.Pieces.{written-twice}
 use Rattle.record.proofs.Words.{words-same, all-append, all-take, all-replicate}
 use Rattle.states.specs.Words.{longs, packed, unpacked}
@@ -78,6 +78,9 @@ padded-at front n i =
 
 pub packed-zeros : (front : List ℕ) (n : ℕ) → packed (front ++ replicate n 0) ≡ packed front
 packed-zeros front n = ap longs (words-same 14 front (front ++ replicate n 0) 0 0 (λ j _. padded-at front n (0 + j)))
+
+pub mission-padded : (front : List ℕ) (n : ℕ) → missionIn (front ++ replicate n 0) ≡ missionIn front
+mission-padded front n = λ i. padded-at front n 4 i + 256 * padded-at front n 5 i
 
 drop-zeros : (k n : ℕ) → drop {A = ℕ} k (replicate n 0) ≡ replicate (n - k) 0
 drop-zeros k n =

@@ -1,6 +1,7 @@
 -- What is left of the bytes that were fed.
 --   number      a flag as a number
---   keeping     a state: ended or not, how many bytes, how many curves, where their records end, and what stands there
+--   missionNumber   a mission as a number: that of its header, and 0 where there is none
+--   keeping     a state: ended or not, how many bytes, the mission's number, how many curves, where the records end, and what stands there
 --   stateOf     what is left of these bytes, ended or not
 --   IsOf        a state is that of these bytes, ended or not
 --   Reached     a state is that of some bytes
@@ -14,7 +15,9 @@ use Rattle.refusal.specs.Answers.{if_then_else_}
 use Rattle.record.specs.Numbers.{AllBytes}
 use Rattle.record.specs.Kinds.{longestRecord}
 use Rattle.record.specs.Records.{longest, erasedBytes}
-use Rattle.sheet.specs.Survey.{survey}
+use Rattle.sheet.specs.declared.Mission.{Mission}
+use Rattle.sheet.specs.declared.Mission.the-variants as mission
+use Rattle.sheet.specs.Survey.{survey, missionOf}
 use Rattle.sheet.specs.Promise.{countOf}
 use Rattle.states.specs.declared.State.{State}
 use Rattle.states.specs.Words.{packed}
@@ -23,11 +26,16 @@ abbrev pub number : Bool → ℕ
 number false = 0
 number true = 1
 
+abbrev pub missionNumber : Mission → ℕ
+missionNumber mission.None = 0
+missionNumber (mission.Number m) = m
+
 -- of what stands behind the records a state has as many bytes as the longest record, eight to a word, and how many bytes FF come first
-abbrev pub keeping : Bool → ℕ → ℕ → ℕ → List ℕ → State
-keeping ended count curves place rest = record {
+abbrev pub keeping : Bool → ℕ → ℕ → ℕ → ℕ → List ℕ → State
+keeping ended count mission curves place rest = record {
   ended = number ended;
   count = count;
+  mission = mission;
   curves = curves;
   place = place;
   erased = erasedBytes rest;
@@ -37,8 +45,9 @@ keeping ended count curves place rest = record {
 -- what is too long is TOO LONG, whatever stands in it, and is not counted any further
 unfoldable pub stateOf : List ℕ → Bool → State
 stateOf s ended =
-    if ltb longest (length s) then keeping ended (suc longest) 0 0 []
-    else keeping ended (length s) (countOf (survey s .records)) (survey s .end) (drop (survey s .end) s)
+    let v = survey s in
+    if ltb longest (length s) then keeping ended (suc longest) 0 0 0 []
+    else keeping ended (length s) (missionNumber (missionOf (v .records))) (countOf (v .records)) (v .end) (drop (v .end) s)
 
 pub record IsOf (st : State) (s : List ℕ) (ended : Bool) : Type 0 where
   pub bytes : AllBytes s

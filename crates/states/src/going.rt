@@ -2,11 +2,11 @@
 ghost use mathlib.Core.Path.{_≡_};
 ghost use mathlib.Core.Bool.{false};
 ghost use mathlib.Core.List.{[]};
-ghost use Prim.Native.Nat.{suc, _+_, _≤_};
+ghost use Prim.Native.Nat.{suc, _+_, _<_, _≤_};
 ghost use lib.ListN.{length};
 ghost use Rattle.record.specs.Records.{longest};
 ghost use Rattle.states.specs.States.{keeping};
-ghost use Rattle.states.specs.Steps.{erasedOn, afterRecords, onward as onwardOf, fedBy, faultBehind, answerIn, Standing, Possible};
+ghost use Rattle.states.specs.Steps.{erasedOn, missionOn, afterRecords, onward as onwardOf, fedBy, missionKept, faultBehind, answerIn, Standing, Possible};
 use crate::State;
 use crate::front::bytes_of;
 use crate::front::front_words;
@@ -18,24 +18,45 @@ use record::LONGEST_RECORD;
 use record::Step;
 use record::erased_bytes;
 use record::erased_end;
+use record::mission_in;
 use refusal::Fault;
 use refusal::Refusal;
 use refusal::nowhere;
 use sheet::Checked;
 use sheet::Ending;
+use sheet::Mission;
 use sheet::walk;
 
-// The state behind some records that a part completes, of so many curves and bytes; `rest` is what the part has behind them.
-fn after_records(state: State, count: usize, curves: usize, size: usize, rest: &[u8]) -> State
-    requires { ⌜ (state .curves ≤ longest) × (state .place ≤ longest) × (curves ≤ longest) × (size ≤ longest) ⌝ }
-    ensures { λ r. ⌜ r ≡ afterRecords state count curves size (now (rest .entry)) ⌝ }
+// The mission's number behind records that the bytes behind a state's records begin with: a sheet's first record is its header.
+fn mission_on(state: State, bytes: &[u8]) -> usize
+    requires { ⌜ 6 ≤ length (now bytes) ⌝ }
+    ensures { λ r. ⌜ r ≡ missionOn state (now (bytes .entry)) ⌝ }
 {
-    let w = walk(rest, 0);
+    if state.place == 0 {
+        return mission_in(bytes) as usize;
+    }
+    state.mission
+}
+
+// The state behind some records that a part completes, of so many curves and bytes; `rest` is what the part has behind them.
+fn after_records(
+    state: State,
+    count: usize,
+    mission: usize,
+    curves: usize,
+    size: usize,
+    rest: &[u8],
+) -> State
+    requires { ⌜ (state .curves ≤ longest) × (state .place ≤ longest) × (curves ≤ longest) × (size ≤ longest) ⌝ }
+    ensures { λ r. ⌜ r ≡ afterRecords state count mission curves size (now (rest .entry)) ⌝ }
+{
+    let w = walk(rest, false, 0);
     let end = w.end;
     let tail = &rest[end..];
     State {
         ended: 0,
         count,
+        mission,
         curves: state.curves + curves + w.curves,
         place: state.place + size + end,
         erased: erased_bytes(tail),
@@ -66,14 +87,16 @@ fn onward(state: State, part: &[u8]) -> State
     let front = joined(&words, held, part);
     let count = state.count + part.len();
     let all = least(held + part.len(), LONGEST_RECORD);
-    let w = walk(&front[..all], 0);
+    let w = walk(&front[..all], state.place == 0, 0);
     let size = w.end;
     if size > 0 {
-        return after_records(state, count, w.curves, size, &part[size - left..]);
+        let mission = mission_on(state, &front);
+        return after_records(state, count, mission, w.curves, size, &part[size - left..]);
     }
     State {
         ended: 0,
         count,
+        mission: state.mission,
         curves: state.curves,
         place: state.place,
         erased: erased_on(state, part),
@@ -83,11 +106,12 @@ fn onward(state: State, part: &[u8]) -> State
 
 // What is left of more bytes than a sheet has.
 fn overfull() -> State
-    ensures { λ r. ⌜ r ≡ keeping false (suc longest) 0 0 [] ⌝ }
+    ensures { λ r. ⌜ r ≡ keeping false (suc longest) 0 0 0 [] ⌝ }
 {
     State {
         ended: 0,
         count: LONGEST + 1,
+        mission: 0,
         curves: 0,
         place: 0,
         erased: 0,
@@ -118,6 +142,17 @@ fn fault_behind(state: State, refusal: Refusal, offset: usize) -> Checked
     Checked::Refused(Fault { refusal, place })
 }
 
+// The mission of a state's records.
+fn mission_of(state: State) -> Mission
+    requires { ⌜ state .mission < 65536 ⌝ }
+    ensures { λ r. ⌜ r ≡ missionKept state ⌝ }
+{
+    if state.place == 0 {
+        return Mission::None;
+    }
+    Mission::Number(state.mission as u16)
+}
+
 // What the check of all the bytes answers.
 pub fn answer(state: State) -> Checked
     requires { ⌜ Possible state ⌝ }
@@ -130,7 +165,7 @@ pub fn answer(state: State) -> Checked
     let held = least(left, LONGEST_RECORD);
     let words = state.words;
     let front = bytes_of(&words);
-    let w = walk(&front[..held], 0);
+    let w = walk(&front[..held], state.place == 0, 0);
     let ending = w.ending;
     match ending {
         Ending::Faulty(f) => {
@@ -139,7 +174,10 @@ pub fn answer(state: State) -> Checked
         }
         Ending::Sound => match erased_end(state.erased, left) {
             Step::Fault(refusal, offset) => fault_behind(state, refusal, offset),
-            _ => Checked::Curves(state.curves),
+            _ => Checked::Sheet {
+                mission: mission_of(state),
+                curves: state.curves,
+            },
         },
     }
 }

@@ -4,7 +4,7 @@ ghost use Prim.Native.Nat.{_≤_};
 ghost use lib.ListN.{length};
 ghost use Rattle.whole.specs.Number.{Tells};
 ghost use Rattle.states.specs.States.{Reached};
-ghost use Rattle.states.specs.Steps.{RecordsEnd, Fronted, Standing, Overfull};
+ghost use Rattle.states.specs.Steps.{CurvesEnd, RecordsEnd, MissionFits, Fronted, Standing, Overfull};
 use crate::State;
 use crate::front::bytes_of;
 use crate::front::front_words;
@@ -16,20 +16,44 @@ use record::erased_bytes;
 use record::row_of;
 use sheet::walk;
 
-// Whether records of so many curves may end at a place: some of them are longer than cubics, by the same number of bytes each.
-fn records_end(curves: usize, place: usize) -> bool
-    ensures { λ r. ⌜ Tells (RecordsEnd curves place) r ⌝ }
+// Whether the records of so many curves may have so many bytes: some of them are longer than cubics, by the same number of bytes each.
+fn curves_end(curves: usize, long: usize) -> bool
+    ensures { λ r. ⌜ Tells (CurvesEnd curves long) r ⌝ }
 {
     let cubic = row_of(Kind::Cubic).size;
     let more = row_of(Kind::Quintic).size - cubic;
-    if curves > place / cubic {
+    if curves > long / cubic {
         return false;
     }
-    let left = place - curves * cubic;
+    let left = long - curves * cubic;
     if left % more != 0 {
         return false;
     }
     left / more <= curves
+}
+
+// Whether records of so many curves may end at a place: they stand behind a header.
+fn records_end(curves: usize, place: usize) -> bool
+    ensures { λ r. ⌜ Tells (RecordsEnd curves place) r ⌝ }
+{
+    if place == 0 {
+        return curves == 0;
+    }
+    let header = row_of(Kind::Header).size;
+    if place < header {
+        return false;
+    }
+    curves_end(curves, place - header)
+}
+
+// Whether the mission of records that end at a place may have that number.
+fn mission_fits(mission: usize, place: usize) -> bool
+    ensures { λ r. ⌜ Tells (MissionFits mission place) r ⌝ }
+{
+    if place == 0 {
+        return mission == 0;
+    }
+    mission <= 65535
 }
 
 fn are_same(a: &[u64; 7], b: &[u64; 7]) -> bool
@@ -62,7 +86,7 @@ fn is_fronted(state: State) -> bool
     if least(LONGEST_RECORD, state.erased) != erased_bytes(front) {
         return false;
     }
-    if walk(front, 0).end != 0 {
+    if walk(front, state.place == 0, 0).end != 0 {
         return false;
     }
     // Last, since bytes that have just been written are slow to copy.
@@ -80,6 +104,9 @@ fn is_standing(state: State) -> bool
     if state.place > state.count {
         return false;
     }
+    if !mission_fits(state.mission, state.place) {
+        return false;
+    }
     if !records_end(state.curves, state.place) {
         return false;
     }
@@ -90,6 +117,9 @@ fn is_overfull(state: State) -> bool
     ensures { λ r. ⌜ Tells (Overfull (state)) r ⌝ }
 {
     if state.count != LONGEST + 1 {
+        return false;
+    }
+    if state.mission != 0 {
         return false;
     }
     if state.curves != 0 {

@@ -22,7 +22,7 @@ diagonal =
     (record { root = 707; rest = 151 }) (record { is = refl; small = omega arith })
 
 abbrev pub three : List (Answer (List Counted))
-three = given (No ∷ Pre 424 ∷ Pre 707 ∷ []) ∷ refuse refusal.Leftover 46 ∷ given (Pre 707 ∷ Still ∷ []) ∷ []
+three = given (No ∷ Pre 424 ∷ Pre 707 ∷ []) ∷ refuse refusal.Leftover 52 ∷ given (Pre 707 ∷ Still ∷ []) ∷ []
 
 abbrev pub threeTotals : Totals
 threeTotals = record { sheets = 3; verdicts = 1 ∷ 1 ∷ 0 ∷ 3 ∷ []; refused = 0 ∷ 0 ∷ 1 ∷ 0 ∷ 0 ∷ 0 ∷ []; sum = 1838; longest = Curve 707 1 3 }

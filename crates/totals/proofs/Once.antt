@@ -6,7 +6,6 @@ use mathlib.Core.Path.{_≡_, sym, ap, ap₂, _∙_, subst}
 use mathlib.Core.List.{List, [], _∷_, _++_}
 use Prim.Native.Nat.{ℕ, zero, suc, _<_, _≤_}
 use native.Mathlib.Omega.{arith}
-use lib.ListN.{length}
 use Rattle.refusal.specs.Answers.{Answer, refused, given, with-given}
 use Rattle.refusal.proofs.Answers.{by-order}
 use Rattle.curve.specs.declared.Curve.{Curve}
@@ -17,7 +16,7 @@ use Rattle.verdict.specs.Promise.{Recognised}
 use Rattle.verdict.proofs.Once.{recognised-once}
 use Rattle.sheet.specs.Survey.{outcome}
 use Rattle.sheet.specs.Promise.{answerOfChecked, countOf}
-use Rattle.sheet.proofs.Once.{curve-read-once, checked-same}
+use Rattle.sheet.proofs.Once.{has-once, checked-same}
 use Rattle.totals.specs.declared.Counted.{Counted}
 use Rattle.totals.specs.declared.Counted.the-variants.{Pre}
 use Rattle.totals.specs.declared.Totals.{Totals}
@@ -39,7 +38,7 @@ curve-once s number x y h k =
     counts-once (k .curve) (k .verdict) x y (subst (λ (v : Verdict). CountsFor (k .curve) v x) v (subst (λ (d : Curve). CountsFor d (h .verdict) x) c (h .counts))) (k .counts)
   where
     c : h .curve ≡ k .curve
-    c = curve-read-once s number (h .curve) (k .curve) (h .reads) (k .reads)
+    c = has-once s number (h .curve) (k .curve) (h .has) (k .has)
 
     v : h .verdict ≡ k .verdict
     v =
@@ -79,7 +78,7 @@ adds-once t s r q h k = by-order (suc (t .sheets)) 1000 room full
         let a = h .room (omega arith) in
         let b = k .room (omega arith) in
         let e = sheet-once s (a .counted) (b .counted) (a .sheet-is) (b .sheet-is) in
-        both (a .adds ∙ ap (added t) e ∙ sym (b .adds)) (a .says ∙ ap (with-given length) e ∙ sym (b .says))
+        both (a .adds ∙ ap (added t) e ∙ sym (b .adds)) (a .says ∙ sym (b .says))
 
     full : 1000 < suc (t .sheets) → r ≡ q
     full l =

@@ -18,7 +18,7 @@ use Rattle.sheet.specs.Survey.{Entry, outcome}
 use Rattle.sheet.specs.Promise.{countOf}
 use Rattle.sheet.proofs.Surveys.{sound-of}
 use Rattle.sheet.proofs.Faults.{curves-few}
-use Rattle.sheet.proofs.Ahead.{read-in-range}
+use Rattle.sheet.proofs.Ahead.{curve-in-range}
 use Rattle.totals.specs.declared.Counted.{Counted}
 use Rattle.totals.specs.Sheets.{CountsFor, CurveIs, CurvesAre, CheckedAs, SheetIs, SheetsAre}
 use Rattle.totals.specs.Totals.{Placed, placed, numbered, curvesFrom, hundredthsOf, sumOf}
@@ -33,7 +33,7 @@ judged-small curve (verdict.Pre p) x r h (m, k, e) = omega (arith, ap hundredths
 judged-small curve (verdict.Refused f) x r h e = absurd e
 
 pub curve-small : (s : List ℕ) (number : ℕ) (x : Counted) → CurveIs s number x → hundredthsOf x ≤ 28284272
-curve-small s number x h = judged-small (h .curve) (h .verdict) x (read-in-range s number (h .curve) (h .reads)) (h .recognised) (h .counts)
+curve-small s number x h = judged-small (h .curve) (h .verdict) x (curve-in-range s number (h .curve) (h .has)) (h .recognised) (h .counts)
 
 numbered-long : (sheet k : ℕ) (xs : List Counted) → length (numbered sheet k xs) ≡ length xs
 numbered-long sheet k [] = refl

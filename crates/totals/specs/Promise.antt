@@ -6,12 +6,12 @@
 use mathlib.Core.Path.{_≡_}
 use mathlib.Core.List.{List, [], _∷_, _++_}
 use Prim.Native.Nat.{ℕ, _+_, _-_, _^_, _<_, _≤_, min}
-use lib.ListN.{length, getD, set}
+use lib.ListN.{getD, set}
 use Rattle.refusal.specs.declared.Refusal.the-variants as refusal
 use Rattle.refusal.specs.declared.Fault.{Fault}
 use Rattle.refusal.specs.Table.{numberOf}
-use Rattle.refusal.specs.Answers.{Answer, refused, given, refuse, with-given}
-use Rattle.sheet.specs.Promise.{answerOfChecked}
+use Rattle.refusal.specs.Answers.{Answer, refused, given, refuse}
+use Rattle.sheet.specs.Promise.{answerOfChecked, Checks}
 use Rattle.totals.specs.declared.Counted.{Counted}
 use Rattle.totals.specs.declared.Totals.{Totals}
 use Rattle.totals.specs.declared.Added.{Added}
@@ -56,7 +56,7 @@ pub record Taken (t : Totals) (s : List ℕ) (r : Added) : Type 0 where
   pub counted : Answer (List Counted)
   pub sheet-is : SheetIs s counted
   pub adds : r .totals ≡ added t counted
-  pub says : answerOfChecked (r .answer) ≡ with-given length counted
+  pub says : Checks s (r .answer)
   pub totals : (ss : List (List ℕ)) → IsTotals ss t → IsTotals (ss ++ (s ∷ [])) (r .totals)
 
 -- a full box stays as it is

@@ -1,7 +1,7 @@
 -- What the sheets of a box count for.
 --   CountsFor           what a curve with a verdict counts for
---   CurveIs, CurvesAre  the curve of a number, and the first curves of a sheet, as `read` gives them and `recognise` judges them
---   CheckedAs           a sheet whose check answers that
+--   CurveIs, CurvesAre  the curve of a number, and the first curves of a sheet, as they stand there and `recognise` judges them
+--   CheckedAs           a sheet with so many curves, or with that fault
 --   SheetIs, SheetsAre  a sheet: its curves in order, or its fault; and each sheet of a list
 use mathlib.Core.Path.{_≡_}
 use mathlib.Core.List.{List, [], _∷_, _++_}
@@ -13,9 +13,8 @@ use Rattle.verdict.specs.declared.Verdict.{Verdict}
 use Rattle.verdict.specs.declared.Verdict.the-variants as verdict
 use Rattle.verdict.specs.Promise.{Recognised}
 use Rattle.measure.specs.Lengths.{lengthOf}
-use Rattle.sheet.specs.declared.Reading.the-variants as reading
 use Rattle.sheet.specs.Survey.{outcome}
-use Rattle.sheet.specs.Promise.{countOf, Reads}
+use Rattle.sheet.specs.Promise.{countOf, HasCurve}
 use Rattle.totals.specs.declared.Counted.{Counted}
 use Rattle.totals.specs.declared.Counted.the-variants.{Still, No, Ph, Pre}
 use Rattle.totals.specs.Hundredths.{Hundredths}
@@ -31,7 +30,7 @@ CountsFor curve (verdict.Refused r) x = ⊥
 pub record CurveIs (s : List ℕ) (number : ℕ) (x : Counted) : Type 0 where
   pub curve : Curve
   pub verdict : Verdict
-  pub reads : Reads s number (reading.Points curve)
+  pub has : HasCurve s number curve
   pub recognised : Recognised (pointsOf curve) verdict
   pub counts : CountsFor curve verdict x
 
@@ -39,7 +38,7 @@ abbrev pub CurvesAre : List ℕ → ℕ → List Counted → Type 0
 CurvesAre s zero xs = xs ≡ []
 CurvesAre s (suc n) xs = (earlier : List Counted) × (x : Counted) × CurvesAre s n earlier × CurveIs s (suc n) x × (xs ≡ earlier ++ (x ∷ []))
 
--- of a sheet whose check answers a
+-- of a sheet that has so many curves, or that fault
 abbrev pub CheckedAs : List ℕ → Answer ℕ → Answer (List Counted) → Type 0
 CheckedAs s (refused f) x = x ≡ refused f
 CheckedAs s (given n) x = (xs : List Counted) × CurvesAre s n xs × (x ≡ given xs)

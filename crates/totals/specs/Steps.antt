@@ -8,15 +8,15 @@ use mathlib.Core.Path.{_≡_}
 use mathlib.Core.List.{List}
 use Prim.Native.Nat.{ℕ, _*_, _≤_}
 use lib.IntN.{pos, natAbs}
-use lib.ListN.{length}
 use lib.Signed.{_≤ℤ_, _<ℤ_}
-use Rattle.refusal.specs.Answers.{Answer, refused, given, with-given}
+use Rattle.refusal.specs.Answers.{Answer, refused, given}
 use Rattle.curve.specs.declared.Curve.{Curve}
 use Rattle.curve.specs.Curves.{pointsOf}
 use Rattle.verdict.specs.declared.Verdict.{Verdict}
 use Rattle.verdict.specs.Promise.{Recognised}
 use Rattle.measure.specs.declared.lengths.Length.{Length}
-use Rattle.sheet.specs.Promise.{answerOfChecked}
+use Rattle.sheet.specs.declared.Mission.{Mission}
+use Rattle.sheet.specs.Promise.{Checks}
 use Rattle.totals.specs.declared.Counted.{Counted}
 use Rattle.totals.specs.declared.Totals.{Totals}
 use Rattle.totals.specs.declared.Added.{Added}
@@ -42,16 +42,16 @@ pub record CountsCurves (t : Totals) (s : List ℕ) (n : ℕ) (r : Totals) : Typ
   pub counts : r ≡ withCurves t (numbered (t .sheets) 1 curves)
 
 -- how many curves are counted of a sheet whose check answers that
-abbrev pub curvesOf : Answer ℕ → ℕ
+abbrev pub curvesOf : Answer (Mission × ℕ) → ℕ
 curvesOf (refused f) = 0
-curvesOf (given n) = n
+curvesOf (given told) = told .1
 
-abbrev pub withAnswer : Totals → Answer ℕ → Totals
+abbrev pub withAnswer : Totals → Answer (Mission × ℕ) → Totals
 withAnswer t (refused f) = withRefused t f
-withAnswer t (given n) = t
+withAnswer t (given told) = t
 
 pub record Takes (t : Totals) (s : List ℕ) (r : Added) : Type 0 where
   pub counted : Answer (List Counted)
   pub sheet-is : SheetIs s counted
   pub adds : r .totals ≡ counting t counted
-  pub says : answerOfChecked (r .answer) ≡ with-given length counted
+  pub says : Checks s (r .answer)

@@ -4,12 +4,14 @@ use crate::Longest;
 use crate::Totals;
 use crate::judging::judge;
 use record::Held;
+use record::Kind;
 use record::held_curve;
+use record::row_of;
 ghost use mathlib.Core.Path.{_≡_};
 ghost use Prim.Native.Nat.{_+_};
 ghost use Rattle.refusal.specs.Answers.{with-given};
 ghost use Rattle.sheet.specs.Survey.{outcome};
-ghost use Rattle.sheet.specs.Promise.{countOf};
+ghost use Rattle.sheet.specs.Promise.{toldOf};
 ghost use Rattle.totals.specs.Totals.{verdictOf, hundredthsOf, placed, own, longer as longerOf};
 ghost use Rattle.totals.specs.Promise.{bounded, marked, withCurve};
 ghost use Rattle.totals.specs.Steps.{curvesOf, CountsCurves};
@@ -108,13 +110,14 @@ fn with_curve(t: Totals, number: u64, x: Counted) -> Totals
     }
 }
 
-// The totals with the curves of a sheet more, of which `count` are counted, in one pass from record to record.
+// The totals with the curves of a sheet more, of which `count` are counted, in one pass from record to record,
+// behind the header.
 pub(crate) fn count_curves(start: Totals, sheet: &[u8], count: usize) -> Totals
-    requires { ⌜ curvesOf (with-given countOf (outcome (now sheet))) ≡ count ⌝ }
+    requires { ⌜ curvesOf (with-given toldOf (outcome (now sheet))) ≡ count ⌝ }
     ensures { λ r. ⌜ CountsCurves start (now (sheet .entry)) count r ⌝ }
 {
     let mut t = start;
-    let mut next: usize = 0;
+    let mut next = row_of(Kind::Header).size;
     let mut k: usize = 0;
     while k < count {
         let Held::Curve { curve, size } = held_curve(&sheet[next..]) else {

@@ -47,7 +47,7 @@ pub struct Totals {
     pub longest: Longest,
 }
 
-// The totals, and what was said of the sheet: how many curves it has, or its fault, or that the box is full.
+// The totals, and what was said of the sheet: its mission and how many curves it has, or its fault, or that the box is full.
 pub struct Added {
     pub totals: Totals,
     pub answer: Checked,
@@ -89,7 +89,7 @@ fn curves_of(answer: Checked) -> usize
     ensures { λ r. ⌜ r ≡ curvesOf (answerOfChecked answer) ⌝ }
 {
     match answer {
-        Checked::Curves(count) => count,
+        Checked::Sheet { mission: _, curves } => curves,
         Checked::Refused(_) => 0,
     }
 }
@@ -99,7 +99,10 @@ fn with_answer(t: Totals, answer: Checked) -> Totals
     ensures { λ r. ⌜ r ≡ withAnswer t (answerOfChecked answer) ⌝ }
 {
     match answer {
-        Checked::Curves(_) => t,
+        Checked::Sheet {
+            mission: _,
+            curves: _,
+        } => t,
         Checked::Refused(f) => with_refused(t, f),
     }
 }

@@ -4,6 +4,7 @@
 use mathlib.Core.Path.{_≡_, refl}
 use Rattle.refusal.specs.declared.Refusal.the-variants as refusal
 use Rattle.refusal.specs.Answers.{given, refuse, if_then_else_}
+use Rattle.sheet.specs.declared.Mission.the-variants.{Number}
 use Rattle.text.specs.Texts.{bytes, digitsOf}
 use Rattle.totals.proofs.Examples.{threeTotals}
 use Rattle.totals_text.specs.Texts.{totalsText, sheetLine}
@@ -14,10 +15,10 @@ three-text :
 unfolding digitsOf if_then_else_
 three-text = refl
 
-sound-line : sheetLine 1 (bytes "first.sheet") (given 3) ≡ bytes "1 first.sheet: 3 curves\n"
+sound-line : sheetLine 1 (bytes "first.sheet") (given (Number 7, 3)) ≡ bytes "1 first.sheet: 3 curves\n"
 unfolding digitsOf if_then_else_
 sound-line = refl
 
-refused-line : sheetLine 2 (bytes "second.sheet") (refuse refusal.Leftover 46) ≡ bytes "2 second.sheet: refused 3 at 46\n"
+refused-line : sheetLine 2 (bytes "second.sheet") (refuse refusal.Leftover 52) ≡ bytes "2 second.sheet: refused 3 at 52\n"
 unfolding digitsOf if_then_else_
 refused-line = refl

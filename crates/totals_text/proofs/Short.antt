@@ -1,7 +1,7 @@
 -- How long the texts of a box are.
 --   line-short       the line of a sheet of the first 1,000 has at most 32 bytes besides its name
 --   totals-short     the lines of the totals have at most 512 bytes
-use mathlib.Core.Path.{_≡_, refl, ap, subst}
+use mathlib.Core.Path.{sym, ap}
 use mathlib.Core.List.{List, [], _∷_, _++_}
 use Prim.Native.Nat.{ℕ, suc, _+_, _/_, _%_, _^_, _≤_, _<_}
 use Prim.Native.String.{String}
@@ -9,65 +9,54 @@ use native.Mathlib.Omega.{arith}
 use lib.IntN.{pos}
 use lib.ListN.{length, length-append}
 use Rattle.refusal.specs.Table.{numberOf}
-use Rattle.refusal.specs.Answers.{Answer, refused, given, with-given, numberOfAnswer}
+use Rattle.refusal.specs.Answers.{numberOfAnswer}
+use Rattle.refusal.proofs.Answers.{refused-back}
 use Rattle.refusal.proofs.Laws.{number-small}
-use Rattle.sheet.specs.Survey.{Entry, outcome}
-use Rattle.sheet.specs.Promise.{countOf}
-use Rattle.sheet.proofs.Surveys.{sound-of}
-use Rattle.sheet.proofs.Faults.{curves-few, fault-near}
+use Rattle.sheet.specs.declared.Checked.{Checked}
+use Rattle.sheet.specs.declared.Checked.the-variants as checked
+use Rattle.sheet.specs.Survey.{outcome}
+use Rattle.sheet.specs.Promise.{answerOfChecked, toldOf, Checks}
+use Rattle.sheet.proofs.Faults.{check-few, fault-near}
 use Rattle.text.specs.Texts.{bytes, decimal, labelled}
 use Rattle.text.proofs.Decimals.{decimal-few}
-use Rattle.totals.specs.declared.Counted.{Counted}
 use Rattle.totals.specs.declared.Longest.{Longest}
 use Rattle.totals.specs.declared.Longest.the-variants.{Curve, None}
 use Rattle.totals.specs.declared.Totals.{Totals}
-use Rattle.totals.specs.Sheets.{CheckedAs, SheetIs}
 use Rattle.totals.specs.Totals.{curvesFrom, verdictAt, withVerdict, refusedBy, totalsOf, IsTotals}
 use Rattle.totals.proofs.Lists.{many-few}
-use Rattle.totals.proofs.Sizes.{curves-long, sheets-long, sheets-small}
+use Rattle.totals.proofs.Sizes.{sheets-long, sheets-small}
 use Rattle.totals.proofs.Bounds.{Light, longest-light, sheets-light}
 use Rattle.totals_text.specs.Texts.{hundredthsText, countLine, verdictLines, refusalLines, longestLine, totalsText, front, said, sheetLine}
 
 -- ---- the line of a sheet
-said-short : (s : List ℕ) (x : Answer (List Counted)) → SheetIs s x → length (said (with-given length x)) ≤ 20
-said-short s x = by (outcome s) refl x
-  where
-    by : (a : Answer (List Entry)) → outcome s ≡ a → (x : Answer (List Counted)) → CheckedAs s (with-given countOf a) x → length (said (with-given length x)) ≤ 20
-    by (refused f) o x e =
-        let front = labelled "refused " (pos (numberOf (f .refusal))) in
-        let back = labelled " at " (pos (f .place)) in
-        omega (
-          arith,
-          ap (λ (y : Answer (List Counted)). length (said (with-given length y))) e,
-          length-append (front ++ back) (bytes "\n"),
-          length-append front back,
-          length-append (bytes "refused ") (decimal (numberOf (f .refusal))),
-          length-append (bytes " at ") (decimal (f .place)),
-          decimal-few 1 (numberOf (f .refusal)) (omega (arith, number-small (f .refusal))),
-          decimal-few 3 (f .place) (omega (arith, fault-near s f o)),
-        )
-    by (given es) o x (xs, h, e) =
-        let few : countOf es ≤ 113 = subst (λ (z : List Entry). countOf z ≤ 113) (sound-of s o .1) (curves-few s) in
-        omega (
-          arith,
-          ap (λ (y : Answer (List Counted)). length (said (with-given length y))) e,
-          length-append (decimal (length xs)) (bytes " curves\n"),
-          decimal-few 2 (length xs) (omega (arith, curves-long s (countOf es) xs h)),
-        )
+said-short : (s : List ℕ) (r : Checked) → Checks s r → length (said (answerOfChecked r)) ≤ 20
+said-short s (checked.Sheet m n) h =
+    let few = check-few s m n h in
+    omega (arith, length-append (decimal n) (bytes " curves\n"), decimal-few 2 n (omega arith))
+said-short s (checked.Refused f) h =
+    let front = labelled "refused " (pos (numberOf (f .refusal))) in
+    let back = labelled " at " (pos (f .place)) in
+    omega (
+      arith,
+      length-append (front ++ back) (bytes "\n"),
+      length-append front back,
+      length-append (bytes "refused ") (decimal (numberOf (f .refusal))),
+      length-append (bytes " at ") (decimal (f .place)),
+      decimal-few 1 (numberOf (f .refusal)) (omega (arith, number-small (f .refusal))),
+      decimal-few 3 (f .place) (omega (arith, fault-near s f (refused-back toldOf (outcome s) (sym h)))),
+    )
 
-pub line-short : (n : ℕ) (name s : List ℕ) (x : Answer (List Counted)) (a : Answer ℕ) → n ≤ 1000 → SheetIs s x → a ≡ with-given length x
-    → length (sheetLine n name a) ≤ length name + 32
-line-short n name s x a l h e =
+pub line-short : (n : ℕ) (name s : List ℕ) (r : Checked) → n ≤ 1000 → Checks s r → length (sheetLine n name (answerOfChecked r)) ≤ length name + 32
+line-short n name s r l h =
     let digits = decimal n in
     omega (
       arith,
-      ap (λ (b : Answer ℕ). length (sheetLine n name b)) e,
-      length-append (front n name) (said (with-given length x)),
+      length-append (front n name) (said (answerOfChecked r)),
       length-append (digits ++ bytes " " ++ name) (bytes ": "),
       length-append (digits ++ bytes " ") name,
       length-append digits (bytes " "),
       decimal-few 3 n (omega arith),
-      said-short s x h,
+      said-short s r h,
     )
 
 -- ---- the totals

@@ -11,6 +11,7 @@ use Prim.Native.String.{String}
 use lib.IntN.{pos}
 use lib.ListN.{getD}
 use Rattle.refusal.specs.Answers.{Answer, refused, given}
+use Rattle.sheet.specs.declared.Mission.{Mission}
 use Rattle.text.specs.Texts.{bytes, decimal, labelled}
 use Rattle.report_text.specs.Texts.{refusedLine}
 use Rattle.totals.specs.declared.Longest.{Longest}
@@ -50,9 +51,10 @@ totalsText t =
 abbrev pub front : ℕ → List ℕ → List ℕ
 front number name = decimal number ++ bytes " " ++ name ++ bytes ": "
 
-abbrev pub said : Answer ℕ → List ℕ
-said (given curves) = decimal curves ++ bytes " curves\n"
+-- a sheet's mission is not told
+abbrev pub said : Answer (Mission × ℕ) → List ℕ
+said (given (m, curves)) = decimal curves ++ bytes " curves\n"
 said (refused f) = refusedLine f
 
-abbrev pub sheetLine : ℕ → List ℕ → Answer ℕ → List ℕ
+abbrev pub sheetLine : ℕ → List ℕ → Answer (Mission × ℕ) → List ℕ
 sheetLine number name a = front number name ++ said a

@@ -82,8 +82,8 @@ pub(crate) fn put_said(area: &mut [u8], place: Place, answer: Checked) -> Place
     ensures { λ r. ⌜ Writes (now (area .entry)) place (said (answerOfChecked answer)) (now (area .exit)) r ⌝ }
 {
     match answer {
-        Checked::Curves(count) => {
-            let end = put_number(area, place, count as u64);
+        Checked::Sheet { mission: _, curves } => {
+            let end = put_number(area, place, curves as u64);
             put(area, end, b" curves\n")
         }
         Checked::Refused(f) => put_refused(area, place, f),

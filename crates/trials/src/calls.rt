@@ -7,6 +7,10 @@ use crate::runs::put_runs;
 use crate::sheets;
 use whole::size;
 
+fn is_mission(x: i64) -> bool {
+    x >= 0 && x <= 65535
+}
+
 // Whether a call takes so many numbers.
 pub(crate) fn suits(call: usize, n: &[i64], count: usize) -> bool
     requires { ⌜ length (now n) ≡ 64 ⌝ }
@@ -17,7 +21,8 @@ pub(crate) fn suits(call: usize, n: &[i64], count: usize) -> bool
         5 => count == 6 || count == 8,
         6 => count == 6 || count == 7,
         7 | 10 | 13 => count % 2 == 0,
-        8 | 9 => count % 2 == 1 && n[0] >= 0,
+        8 | 9 => count % 2 == 0 && count > 0 && is_mission(n[0]) && n[1] >= 0,
+        14 => count % 2 == 1 && is_mission(n[0]),
         _ => count % 2 == 1 && (n[0] == 8 && count > 8 || n[0] == 12 && count > 12),
     }
 }
@@ -102,7 +107,8 @@ pub(crate) fn runs_from(call: usize, n: &[i64]) -> usize
     match call {
         1 | 2 | 3 | 4 | 5 | 6 => 64,
         7 | 10 | 13 => 0,
-        8 | 9 => 1,
+        8 | 9 => 2,
+        14 => 1,
         _ => { if n[0] == 8 { 9 } else { 13 } }
     }
 }

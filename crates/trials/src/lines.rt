@@ -6,17 +6,17 @@ use crate::calls::answer;
 use crate::calls::runs_from;
 use crate::calls::suits;
 use crate::names::look_up;
-use crate::numbers::Size;
 use crate::numbers::arguments;
-use crate::numbers::size_in;
-use crate::places::Sought;
-use crate::places::find;
 use crate::roots::root;
 use crate::runs::no_byte;
 use crate::runs::put_runs;
 use crate::sheets::say_checked;
 use crate::words::say;
 use crate::words::say_number;
+use reading::Size;
+use reading::Sought;
+use reading::find;
+use reading::size_in;
 
 fn say_error(line: usize, column: usize, why: &[u8]) {
     say(b"error at line ");
@@ -45,14 +45,15 @@ fn ask_root(text: &[u8], from: usize, line: usize) -> bool
     if start == end || find(text, end, Sought::Word) < text.len() {
         return false;
     }
-    match size_in(&text[start..end]) {
-        Size::Of(n) => root(n),
-        Size::None => say_error(
+    let Size::Of(n) = size_in(&text[start..end]) else {
+        say_error(
             line,
             start + 1,
             b"not a number from 0 to 18446744073709551615",
-        ),
-    }
+        );
+        return true;
+    };
+    root(n);
     true
 }
 
@@ -96,7 +97,7 @@ fn take(named: usize, text: &[u8], from: usize, line: usize, n: &mut [i64]) -> T
 fn ask_parts(named: usize, text: &[u8], from: usize, line: usize, area: &mut [u8]) -> bool
     requires { ⌜ from ≤ length (now text) ⌝ }
 {
-    let mut state = [0i64; 12];
+    let mut state = [0i64; 13];
     parts_calls::start(&mut state);
     let mut at = from;
     // The last part may be empty, and so stand at the text's end.

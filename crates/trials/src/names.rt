@@ -22,12 +22,13 @@ offset CURVE by H [in ROOM]: 4 or 6 points, each as x y, and a distance
 build P0 from W0 W1 [W2]: a point and 2 or 3 pairs, each as x y
 joins A Z over T [in ROOM]: the first leg, the last leg and the travel, each as x y
 check RUNS: a sheet by its runs of equal bytes, each as BYTE HOW-MANY
-read NUMBER of RUNS: a curve of a sheet
-find NUMBER of RUNS: the bytes of a curve of a sheet
+read MISSION NUMBER of RUNS: a curve of a sheet
+find MISSION NUMBER of RUNS: the bytes of a curve of a sheet
 erase RUNS: a sheet
 append C3 POINTS to RUNS, or append C5 POINTS to RUNS: 4 or 6 points, and a sheet
 root N: a number from 0 to 18446744073709551615
-parts RUNS / RUNS / ...: a sheet that arrives by parts, each told by its runs, or empty",
+parts RUNS / RUNS / ...: a sheet that arrives by parts, each told by its runs, or empty
+start MISSION on RUNS: a sheet",
         name,
         tell,
     )

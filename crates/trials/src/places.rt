@@ -1,42 +1,9 @@
-// Where something stands in a text: a byte, a word, the line of a table that begins with a word.
+// The line of a table that begins with a word.
 ghost use Prim.Native.Nat.{_≤_};
 ghost use lib.ListN.{length};
-use crate::words::same;
-
-// What is looked for in a text.
-pub(crate) enum Sought {
-    Byte(u8),
-    Gap,
-    Word,
-}
-
-fn is_gap(b: u8) -> bool {
-    b == b' ' || b == b'(' || b == b')' || b == b',' || b == b'\t' || b == b'\r'
-}
-
-fn is_sought(b: u8, sought: Sought) -> bool {
-    match sought {
-        Sought::Byte(x) => b == x,
-        Sought::Gap => is_gap(b),
-        Sought::Word => !is_gap(b),
-    }
-}
-
-// The first place from `from` on that has what is sought, or the text's end.
-pub(crate) fn find(text: &[u8], from: usize, sought: Sought) -> usize
-    requires { ⌜ from ≤ length (now text) ⌝ }
-    ensures { λ r. ⌜ from ≤ r ⌝ }
-    ensures { λ r. ⌜ r ≤ length (now (text .entry)) ⌝ }
-{
-    let mut at = from;
-    while at < text.len() {
-        if is_sought(text[at], sought) {
-            return at;
-        }
-        at += 1;
-    }
-    at
-}
+use reading::Sought;
+use reading::find;
+use reading::same;
 
 // Where a line of the table stands, and its number. Where there is none it is 0, and stands for the whole table.
 pub(crate) struct Row {

@@ -19,9 +19,14 @@ fn check(sheet: &[u8]) {
     say_checked(sheet_calls::check(sheet));
 }
 
-fn read(sheet: &[u8], number: i64) {
+// What a number has in two bytes.
+fn half(x: i64) -> u16 {
+    (size(x) % 65536) as u16
+}
+
+fn read(sheet: &[u8], mission: i64, number: i64) {
     let mut out = [0i64; 12];
-    let returned = sheet_calls::read(sheet, size(number), &mut out);
+    let returned = sheet_calls::read(sheet, half(mission), size(number), &mut out);
     if returned < 0 {
         say_fault(returned);
     } else {
@@ -29,8 +34,8 @@ fn read(sheet: &[u8], number: i64) {
     }
 }
 
-fn find(sheet: &[u8], number: i64) {
-    let part = sheet::find(sheet, size(number) as usize);
+fn find(sheet: &[u8], mission: i64, number: i64) {
+    let part = sheet::find(sheet, half(mission), size(number) as usize);
     say_form(b"# bytes", &[part.len() as i64]);
     say_runs(part);
 }
@@ -46,6 +51,11 @@ fn say_change(returned: i64, sheet: &[u8]) {
     say_runs(sheet);
 }
 
+fn start(sheet: &mut [u8], mission: i64) {
+    let returned = sheet_calls::start(sheet, half(mission));
+    say_change(returned, sheet);
+}
+
 fn erase(sheet: &mut [u8]) {
     let returned = sheet_calls::erase(sheet);
     say_change(returned, sheet);
@@ -56,7 +66,7 @@ fn append(sheet: &mut [u8], points: &[i64]) {
     say_change(returned, sheet);
 }
 
-// The call with what is given before its sheet: nothing, or a number, and behind it perhaps points.
+// The call with what is given before its sheet: nothing, a mission, a mission and a number, or how many coordinates and points.
 pub(crate) fn ask(call: usize, given: &[i64], sheet: &mut [u8]) {
     if given.len() == 0 {
         if call == 7 {
@@ -66,9 +76,13 @@ pub(crate) fn ask(call: usize, given: &[i64], sheet: &mut [u8]) {
         }
         return;
     }
+    if given.len() == 1 {
+        start(sheet, given[0]);
+        return;
+    }
     match call {
-        8 => read(sheet, given[0]),
-        9 => find(sheet, given[0]),
+        8 => read(sheet, given[0], given[1]),
+        9 => find(sheet, given[0], given[1]),
         _ => append(sheet, &given[1..]),
     }
 }

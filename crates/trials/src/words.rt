@@ -31,17 +31,3 @@ pub(crate) fn say_form(form: &[u8], numbers: &[i64]) {
         at += 1;
     }
 }
-
-pub(crate) fn same(word: &[u8], other: &[u8]) -> bool {
-    if word.len() != other.len() {
-        return false;
-    }
-    let mut i: usize = 0;
-    while i < word.len() {
-        if word[i] != other[i] {
-            return false;
-        }
-        i += 1;
-    }
-    true
-}

@@ -6,7 +6,7 @@ ghost use Rattle.pair.specs.Pairs.{pair};
 ghost use Rattle.number_calls.specs.Promise.{RootCall};
 ghost use Rattle.curve_calls.specs.Promise.{RecogniseCall, LengthCall, InflectionCall, OffsetCall, BuildCall, JoinCall};
 ghost use Rattle.parts_calls.specs.Promise.{StartCall, FeedCall, EndCall, AskCall};
-ghost use Rattle.sheet_calls.specs.Promise.{CheckCall, ReadCall, FindCall, EraseCall, AppendCall, ReportCall};
+ghost use Rattle.sheet_calls.specs.Promise.{CheckCall, ReadCall, FindCall, StartForCall, EraseCall, AppendCall, ReportCall};
 
 #[no_mangle]
 pub extern "C" fn yard_recognise(p: &[i64], out: &mut [i64]) -> i64
@@ -66,17 +66,24 @@ pub extern "C" fn yard_check(s: &[u8]) -> i64
 }
 
 #[no_mangle]
-pub extern "C" fn yard_read(s: &[u8], number: u64, out: &mut [i64]) -> i64
-    ensures { λ r. ⌜ ReadCall (now (s .entry)) number (now (out .entry)) (now (out .exit)) r ⌝ }
+pub extern "C" fn yard_read(s: &[u8], mission: u16, number: u64, out: &mut [i64]) -> i64
+    ensures { λ r. ⌜ ReadCall (now (s .entry)) mission number (now (out .entry)) (now (out .exit)) r ⌝ }
 {
-    sheet_calls::read(s, number, out)
+    sheet_calls::read(s, mission, number, out)
 }
 
 #[no_mangle]
-pub extern "C" fn yard_find(s: &[u8], number: u64, out: &mut [i64]) -> i64
-    ensures { λ r. ⌜ FindCall (now (s .entry)) number (now (out .entry)) (now (out .exit)) r ⌝ }
+pub extern "C" fn yard_find(s: &[u8], mission: u16, number: u64, out: &mut [i64]) -> i64
+    ensures { λ r. ⌜ FindCall (now (s .entry)) mission number (now (out .entry)) (now (out .exit)) r ⌝ }
 {
-    sheet_calls::find(s, number, out)
+    sheet_calls::find(s, mission, number, out)
+}
+
+#[no_mangle]
+pub extern "C" fn yard_start(s: &mut [u8], mission: u16) -> i64
+    ensures { λ r. ⌜ StartForCall (now (s .entry)) mission (now (s .exit)) r ⌝ }
+{
+    sheet_calls::start(s, mission)
 }
 
 #[no_mangle]

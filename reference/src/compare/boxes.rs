@@ -2,11 +2,11 @@
 
 use super::chance::Chance;
 use super::shapes;
-use super::sheets::{damage, sheet};
+use super::sheets::{damage, mission, sheet};
 use crate::curve::Curve;
 use crate::measure::length;
 use crate::pair::{pair, Pair};
-use crate::sheet::{check, record_bytes};
+use crate::sheet::{check, header_bytes, record_bytes};
 use std::path::Path;
 
 type Sheets = Vec<Vec<u8>>;
@@ -30,7 +30,7 @@ fn boxes(chance: &mut Chance) -> Vec<(&'static str, Sheets)> {
         ("refused", some(chance, 12, faulty)),
         ("mixed", some(chance, 40, either)),
         ("equal", equal_lengths(chance)),
-        ("unmeasured", some(chance, 6, |_| still())),
+        ("unmeasured", some(chance, 6, still)),
         ("full", some(chance, 1_000, small)),
         ("one_more", some(chance, 1_001, small)),
     ]
@@ -59,16 +59,21 @@ fn either(chance: &mut Chance) -> Vec<u8> {
     }
 }
 
-fn still() -> Vec<u8> {
-    record_of(&[Pair::default(); 6])
+/// Of one curve that stands still.
+fn still(chance: &mut Chance) -> Vec<u8> {
+    sheet_of(chance, &[&[Pair::default(); 6]])
 }
 
 fn small(chance: &mut Chance) -> Vec<u8> {
-    match chance.below(4) {
+    match chance.below(5) {
         0 => Vec::new(),
         1 => vec![0xFF; chance.below(40)],
-        2 => still(),
-        _ => record_of(shapes::curve(chance).points()),
+        2 => sheet_of(chance, &[]),
+        3 => still(chance),
+        _ => {
+            let curve = shapes::curve(chance);
+            sheet_of(chance, &[curve.points()])
+        }
     }
 }
 
@@ -83,13 +88,17 @@ fn equal_lengths(chance: &mut Chance) -> Sheets {
     let mut points = measured.points().to_vec();
     let mut sheets = Vec::new();
     for _ in 0..8 {
-        let mut bytes = still();
-        bytes.extend(record_of(&points));
-        bytes.extend(record_of(&points));
-        sheets.push(bytes);
+        sheets.push(sheet_of(chance, &[&[Pair::default(); 6], &points, &points]));
         points.iter_mut().for_each(|p| *p = *p * pair(0, 1));
     }
     sheets
+}
+
+/// A sheet of any mission with these curves.
+fn sheet_of(chance: &mut Chance, curves: &[&[Pair]]) -> Vec<u8> {
+    let mut bytes = header_bytes(mission(chance));
+    bytes.extend(curves.iter().flat_map(|points| record_of(points)));
+    bytes
 }
 
 fn record_of(points: &[Pair]) -> Vec<u8> {

@@ -21,9 +21,10 @@ pub enum Function {
     PartsFeed = 15,
     PartsEnd = 16,
     PartsAsk = 17,
+    Start = 18,
 }
 
-pub const FUNCTIONS: [(Function, &str); 17] = [
+pub const FUNCTIONS: [(Function, &str); 18] = [
     (Function::Recognise, "yard_recognise"),
     (Function::Length, "yard_length"),
     (Function::Inflections, "yard_inflections"),
@@ -41,6 +42,7 @@ pub const FUNCTIONS: [(Function, &str); 17] = [
     (Function::PartsFeed, "yard_parts_feed"),
     (Function::PartsEnd, "yard_parts_end"),
     (Function::PartsAsk, "yard_parts_ask"),
+    (Function::Start, "yard_start"),
 ];
 
 impl Function {
@@ -64,7 +66,8 @@ pub struct Areas {
 #[derive(Clone, Debug, PartialEq, Eq)]
 pub struct Call {
     pub function: Function,
-    /// h; x and y; the parts of a, z and T; or a curve's number or the one whose root is asked, whose bits these are.
+    /// h; x and y; the parts of a, z and T; a mission, and behind it perhaps a curve's number; or the number whose root
+    /// is asked. Of a curve's number and of that one these are the bits.
     pub singles: [i64; 6],
     pub before: Areas,
 }

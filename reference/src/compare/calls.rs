@@ -6,10 +6,11 @@ use super::ends::ends;
 use super::shapes::{a_pair, curve};
 use super::sheets;
 use super::states::{
-    changed_state, ended_state, hurt_state, long_state, moved_state, other_part, other_state,
-    overfull_state, sound_state, uncounted_record,
+    changed_state, ended_state, hurt_state, long_state, moved_state, other_mission_state,
+    other_part, other_state, overfull_state, sound_state, uncounted_record,
 };
 use crate::parts::NUMBERS;
+use crate::sheet::{HEADER_LENGTH, SHEET_LIMIT};
 
 /// No line of a report is longer.
 const LINE: usize = 60;
@@ -30,7 +31,10 @@ fn sound(chance: &mut Chance, function: Function) -> Call {
     use Function::*;
     let mut singles = [0; 6];
     let mut before = Areas::default();
-    if matches!(function, Check | Read | Find | Erase | Append | Report) {
+    if matches!(
+        function,
+        Check | Read | Find | Erase | Start | Append | Report
+    ) {
         before.sheet = sheets::sheet(chance);
     }
     match function {
@@ -47,7 +51,17 @@ fn sound(chance: &mut Chance, function: Function) -> Call {
         }
         Joins => singles = ends(chance),
         Root => singles[0] = any_number(chance) as i64,
-        Read | Find => singles[0] = 1 + chance.below(sheets::curves(&before.sheet).max(1)) as i64,
+        Start => {
+            singles[0] = sheets::mission(chance).into();
+            let length = before.sheet.len().max(HEADER_LENGTH);
+            before.sheet.resize(length, 0xFF);
+        }
+        Read | Find => {
+            let any = sheets::mission(chance);
+            let written = sheets::written_mission(&before.sheet);
+            singles[0] = written.unwrap_or(any).into();
+            singles[1] = 1 + chance.below(sheets::curves(&before.sheet).max(1)) as i64;
+        }
         Report => {
             let room = LINE * (sheets::curves(&before.sheet) + 1);
             before.text = garbage(chance, room).iter().map(|&x| x as u8).collect();
@@ -69,7 +83,7 @@ fn sound(chance: &mut Chance, function: Function) -> Call {
 /// The number area of a call, which has room enough; nothing where it has none.
 fn lent(chance: &mut Chance, function: Function, numbers: usize) -> Vec<i64> {
     use Function::*;
-    if matches!(function, Check | Erase | Append | Report) {
+    if matches!(function, Check | Erase | Start | Append | Report) {
         return Vec::new();
     }
     let room = needed(function, numbers) + chance.pick(&[0, 0, 1, 7]);
@@ -152,7 +166,8 @@ fn ways(function: Function) -> &'static [Way] {
         Joins => &[far_single, dead_end, small_room],
         Root | PartsStart => &[small_room],
         Check | Erase => &[hurt_sheet],
-        Read | Find => &[hurt_sheet, other_number, small_room],
+        Start => &[hurt_sheet, other_size],
+        Read | Find => &[hurt_sheet, other_mission, other_number, small_room],
         Append => &[hurt_sheet, wrong_count, far_number],
         Report => &[hurt_sheet, small_text],
         PartsFeed => FEED_WAYS,
@@ -166,6 +181,7 @@ const FEED_WAYS: &[Way] = &[
     changed_state,
     moved_state,
     other_state,
+    other_mission_state,
     overfull_state,
     ended_state,
     uncounted_record,
@@ -183,6 +199,7 @@ const END_WAYS: &[Way] = &[
     changed_state,
     moved_state,
     other_state,
+    other_mission_state,
     overfull_state,
     uncounted_record,
     small_room,
@@ -242,9 +259,26 @@ fn hurt_sheet(chance: &mut Chance, call: &mut Call) {
     sheets::damage(chance, &mut call.before.sheet);
 }
 
+/// At the ends of what can be started, or beyond them.
+fn other_size(chance: &mut Chance, call: &mut Call) {
+    let short = chance.below(HEADER_LENGTH + 2);
+    let long = SHEET_LIMIT + chance.below(3);
+    let byte = chance.bits() as u8;
+    call.before
+        .sheet
+        .resize(chance.pick(&[short, short, long]), byte);
+}
+
+/// One that has a byte in common with the expected one, or any.
+fn other_mission(chance: &mut Chance, call: &mut Call) {
+    let (own, byte) = (call.singles[0], 1 + chance.below(255) as i64);
+    let any = sheets::mission(chance).into();
+    call.singles[0] = chance.pick(&[own ^ byte, own ^ (byte << 8), own ^ 1, own ^ 256, any, any]);
+}
+
 fn other_number(chance: &mut Chance, call: &mut Call) {
     let behind = sheets::curves(&call.before.sheet) as i64 + 1;
-    call.singles[0] = chance.pick(&[0, behind, behind + 1, -1, i64::MIN, (1 << 32) + 1]);
+    call.singles[1] = chance.pick(&[0, behind, behind + 1, -1, i64::MIN, (1 << 32) + 1]);
 }
 
 /// At, just below or far below what the report needs.

@@ -7,6 +7,8 @@ const CUT: i64 = 2;
 const RANGE: i64 = 6;
 const ROOM: i64 = 12;
 const DEAD_END: i64 = 14;
+const NO_MISSION: i64 = 15;
+const OTHER_MISSION: i64 = 16;
 
 #[test]
 fn no_sound_call_is_refused_for_its_form() {
@@ -15,13 +17,13 @@ fn no_sound_call_is_refused_for_its_form() {
         for _ in 0..500 {
             let call = sound(&mut chance, function);
             let refusal = -(answer(&call).returned.min(0) % 32);
-            // A built point may leave the range, an erased tail may be too short for a curve, and a sheet that comes in
-            // parts may end anywhere.
+            // A built point may leave the range, an erased tail may be too short for a curve or the whole sheet, and a
+            // sheet that comes in parts may end anywhere.
             let allowed = match refusal {
                 CUT => matches!(function, Function::PartsEnd | Function::PartsAsk),
-                1..=5 | DEAD_END => false,
+                1..=5 | DEAD_END | OTHER_MISSION => false,
                 RANGE => function == Function::Build,
-                ROOM => function == Function::Append,
+                ROOM | NO_MISSION => function == Function::Append,
                 _ => true,
             };
             assert!(allowed, "{name} refused {refusal}");

@@ -37,8 +37,10 @@ fn on_state(function: Function, fed: &[u8], part: &[u8]) -> Call {
     }
 }
 
-/// A cubic with bytes of its own behind it: an erased tail, LEFTOVER, KIND, LENGTH, CUT; and one that is RANGE.
+/// A header and a cubic with bytes of their own behind them: an erased tail, LEFTOVER, KIND, LENGTH, CUT; one that is
+/// RANGE; and fronts: an erased one with a leftover, no header, one of a wrong length, two.
 fn small_sheets() -> Vec<Vec<u8>> {
+    let header = [6, 0, b'M', b'N', 7, 2];
     let cubic = |last: u8| [&[36, 0, b'C', b'3'][..], &[1], &[0; 30], &[last]].concat();
     let tails: [&[u8]; 5] = [
         &[0xFF; 6],
@@ -47,9 +49,13 @@ fn small_sheets() -> Vec<Vec<u8>> {
         &[36, 1, b'C', b'3', 0],
         &[52, 0, b'C', b'5', 0, 0],
     ];
-    let behind = |tail: &&[u8]| [&cubic(0)[..], tail].concat();
+    let behind = |tail: &&[u8]| [&header[..], &cubic(0), tail].concat();
     let mut sheets: Vec<_> = tails.iter().map(behind).collect();
-    sheets.push([cubic(1), vec![0xFF; 2]].concat());
+    sheets.push([&header[..], &cubic(1), &[0xFF; 2]].concat());
+    sheets.push([&[0xFF; 7][..], &header, &[0xFF; 2]].concat());
+    sheets.push([&cubic(0)[..], &header].concat());
+    sheets.push([&[7][..], &header[1..], &header].concat());
+    sheets.push([&header[..4], &[0xFF; 2], &header, &[0xFF; 4]].concat());
     sheets
 }
 
@@ -67,11 +73,15 @@ mod tests {
             .collect();
         let expected = [
             None,
-            Some((Refusal::Leftover, 39)),
-            Some((Refusal::Kind, 36)),
-            Some((Refusal::Length, 36)),
-            Some((Refusal::Cut, 36)),
-            Some((Refusal::Range, 0)),
+            Some((Refusal::Leftover, 45)),
+            Some((Refusal::Kind, 42)),
+            Some((Refusal::Length, 42)),
+            Some((Refusal::Cut, 42)),
+            Some((Refusal::Range, 6)),
+            Some((Refusal::Leftover, 7)),
+            Some((Refusal::Kind, 0)),
+            Some((Refusal::Length, 0)),
+            Some((Refusal::Kind, 6)),
         ];
         assert_eq!(found, expected);
     }

@@ -11,7 +11,7 @@ use crate::parts;
 use crate::refusal::Refusal;
 use crate::report::report;
 use crate::root::root;
-use crate::sheet::{append, check, count, erase, read, Fault};
+use crate::sheet::{append, check, count, erase, read, start, Fault, HEADER_LENGTH};
 use crate::verdict::{recognise, Ph, Pre, Verdict};
 
 /// What the check by parts returns where it is asked before the end.
@@ -45,9 +45,19 @@ fn counted(call: &Call, after: &mut Areas) -> Result<usize, Fault> {
         }
         Function::PartsEnd => parts::end(&mut after.out),
         Function::Check => count(&call.before.sheet),
-        Function::Erase => done(erase(&mut after.sheet), &call.before.sheet),
-        Function::Append => curve_in(call)
-            .and_then(|curve| done(append(&mut after.sheet, &curve), &call.before.sheet)),
+        Function::Erase => {
+            erase(&mut after.sheet)?;
+            Ok(0)
+        }
+        Function::Start => {
+            start(&mut after.sheet, mission(call))?;
+            Ok(0)
+        }
+        Function::Append => {
+            let appended = append(&mut after.sheet, &curve_in(call)?);
+            appended.map_err(|refusal| placed(&call.before.sheet, refusal))?;
+            Ok(0)
+        }
         Function::Report => {
             let text = report(&call.before.sheet).unwrap_or_else(|refused| refused);
             filled(&mut after.text, text.as_bytes())
@@ -78,12 +88,7 @@ fn filled<T: Copy + Default>(area: &mut [T], answer: &[T]) -> Result<usize, Faul
     Ok(answer.len())
 }
 
-/// A call on a sheet that answers nothing but 0.
-fn done(told: Result<(), Refusal>, before: &[u8]) -> Result<usize, Fault> {
-    told.map(|()| 0).map_err(|refusal| placed(before, refusal))
-}
-
-/// A fault of the sheet has its place; what is refused of a sheet without one has none.
+/// Of a call that checks the sheet: a fault has its place; what is refused of a sheet without one has none.
 fn placed(sheet: &[u8], refusal: Refusal) -> Fault {
     check(sheet).err().unwrap_or(refusal.into())
 }
@@ -151,19 +156,24 @@ fn built(call: &Call) -> Result<Curve, Fault> {
     Ok(build(a_pair(&call.singles), &pairs(w))?)
 }
 
-fn of_number(call: &Call) -> Result<Curve, Fault> {
-    let (sheet, number) = (&call.before.sheet, call.singles[0] as usize);
-    read(sheet, number).map_err(|refusal| placed(sheet, refusal))
+/// The mission that a sheet is started for, or that a reader expects.
+fn mission(call: &Call) -> u16 {
+    u16::try_from(call.singles[0]).expect("the prototype takes no other")
 }
 
-/// Where the record lies: behind all those before it.
+fn of_number(call: &Call) -> Result<Curve, Fault> {
+    let (sheet, number) = (&call.before.sheet, call.singles[1] as usize);
+    read(sheet, mission(call), number).map_err(|refusal| placed(sheet, refusal))
+}
+
+/// Where the record lies: behind the header and all curves before it.
 fn place_and_length(call: &Call) -> Result<Vec<i128>, Fault> {
     of_number(call)?;
     let lengths = check(&call.before.sheet)?.records;
     let mut lengths = lengths.iter().map(|record| record.part.len() as i128);
-    let place = lengths.by_ref().take(call.singles[0] as usize - 1).sum();
+    let before: i128 = lengths.by_ref().take(call.singles[1] as usize - 1).sum();
     Ok(vec![
-        place,
+        HEADER_LENGTH as i128 + before,
         lengths.next().expect("a record of that number"),
     ])
 }

@@ -20,13 +20,17 @@ fn on_curve(function: Function, points: &[(i64, i64)], h: i64, room: usize) -> A
 }
 
 fn on_sheet(function: Function, sheet: &[u8], number: i64, room: usize) -> Answer {
+    for_mission(MISSION, function, sheet, number, room)
+}
+
+fn for_mission(mission: u16, function: Function, sheet: &[u8], number: i64, room: usize) -> Answer {
     let before = Areas {
         sheet: sheet.to_vec(),
         out: vec![-7; room],
         text: vec![9; room],
         ..Areas::default()
     };
-    told(function, [number, 0, 0, 0, 0, 0], before)
+    told(function, [mission.into(), number, 0, 0, 0, 0], before)
 }
 
 fn is(answer: &Answer, returned: i64, out: &[i64]) {
@@ -147,11 +151,14 @@ fn joins_of_case_8() {
     is(&joined(0, 23), -14, &[0; 23]);
 }
 
-/// A cubic with points all −1 behind a quintic with points all 0, and three erased bytes.
+const MISSION: u16 = 0x0207;
+
+/// A quintic with points all 0, a cubic with points all −1, and three erased bytes.
 fn two_records() -> Vec<u8> {
+    let header = b"\x06\0MN\x07\x02".to_vec();
     let first = [&[52, 0, b'C', b'5'][..], &[0; 48]].concat();
     let second = [&[36, 0, b'C', b'3'][..], &[0xFF; 32]].concat();
-    [first, second, vec![0xFF; 3]].concat()
+    [header, first, second, vec![0xFF; 3]].concat()
 }
 
 #[test]
@@ -163,17 +170,36 @@ fn sheets_read() {
         8,
         &[-1, -1, -1, -1, -1, -1, -1, -1, 0],
     );
-    is(&on_sheet(Function::Find, &sheet, 2, 3), 2, &[52, 36, 0]);
-    is(&on_sheet(Function::Find, &sheet, 1, 2), 2, &[0, 52]);
+    is(&on_sheet(Function::Find, &sheet, 2, 3), 2, &[58, 36, 0]);
+    is(&on_sheet(Function::Find, &sheet, 1, 2), 2, &[6, 52]);
     is(&on_sheet(Function::Find, &sheet, 3, 2), -7, &[0, 0]);
     is(&on_sheet(Function::Find, &sheet, -1, 1), -7, &[0]);
     is(&on_sheet(Function::Find, &sheet, 1, 1), -12, &[0]);
     is(&on_sheet(Function::Read, &sheet, 1, 11), -12, &[0; 11]);
     is(
-        &on_sheet(Function::Read, &sheet[..87], 1, 2),
-        -(2 + 32 * 52),
+        &on_sheet(Function::Read, &sheet[..93], 1, 2),
+        -(2 + 32 * 58),
         &[0; 2],
     );
+}
+
+/// After the sheet's faults, before NUMBER and ROOM, and with place 0; an erased sheet is nobody's.
+#[test]
+fn sheets_of_another_mission() {
+    let sheet = two_records();
+    for (function, other) in [Function::Read, Function::Find]
+        .into_iter()
+        .flat_map(|function| [0, 7, 0x0200, 0x0208, 0xFFFF].map(|other| (function, other)))
+    {
+        let of = |sheet: &[u8], number, room| for_mission(other, function, sheet, number, room);
+        is(&of(&sheet, 1, 12), -16, &[0; 12]);
+        is(&of(&sheet, 0, 12), -16, &[0; 12]);
+        is(&of(&sheet, 1, 1), -16, &[0]);
+        is(&of(&sheet[..93], 1, 2), -(2 + 32 * 58), &[0; 2]);
+        is(&of(&sheet[6..], 1, 2), -4, &[0; 2]);
+        is(&of(&[0xFF; 60], 1, 1), -7, &[0]);
+        is(&of(&[], 1, 12), -7, &[0; 12]);
+    }
 }
 
 #[test]
@@ -188,13 +214,55 @@ fn sheets_written() {
     let refused = told(Function::Append, [0; 6], before.clone());
     assert_eq!((refused.returned, refused.after), (-12, before.clone()));
     let erased = told(Function::Erase, [0; 6], before);
-    assert_eq!((erased.returned, erased.after.sheet), (0, vec![0xFF; 91]));
+    assert_eq!((erased.returned, erased.after.sheet), (0, vec![0xFF; 97]));
     let long = on_sheet(Function::Erase, &[0; 4_097], 0, 0);
     assert_eq!((long.returned, long.after.sheet), (-1, vec![0; 4_097]));
 }
 
-/// The state of a record of which six bytes have come, and a number behind it.
-const OPEN_RECORD: [i64; 13] = [0, 6, 0, 0, 0, 0x0807_3343_0024, 0, 0, 0, 0, 0, 0, -9];
+/// A wrong count comes before the sheet's faults, these before NO MISSION, and that before RANGE.
+#[test]
+fn sheets_without_a_mission() {
+    let of = |sheet: &[u8], numbers: &[i64]| {
+        let (sheet, numbers) = (sheet.to_vec(), numbers.to_vec());
+        let rest = Areas::default();
+        let before = Areas {
+            sheet,
+            numbers,
+            ..rest
+        };
+        let told = told(Function::Append, [0; 6], before.clone());
+        assert_eq!(told.after, before);
+        told.returned
+    };
+    let far = [20_001; 8];
+    assert_eq!(of(&[0xFF; 60], &[0; 8]), -15);
+    assert_eq!(of(&[0xFF; 60], &far), -15);
+    assert_eq!(of(&[], &[0; 12]), -15);
+    assert_eq!(of(&[0xFF; 60], &[0; 7]), -5);
+    assert_eq!(of(&[0xFF, 0xFF, 0xFF, 7], &far), -(3 + 32 * 3));
+    assert_eq!(of(&two_records(), &far), -6);
+}
+
+/// What stood there does not matter: five bytes with a fault at byte 3 are too few, and that has no place.
+#[test]
+fn sheets_started() {
+    let of = |sheet: &[u8]| {
+        let told = on_sheet(Function::Start, sheet, 0, 0);
+        (told.returned, told.after.sheet)
+    };
+    let header = b"\x06\0MN\x07\x02";
+    assert_eq!(of(&[9; 6]), (0, header.to_vec()));
+    let erased = [&header[..], &[0xFF; 91]].concat();
+    assert_eq!(of(&two_records()), (0, erased));
+    let short = [0xFF, 0xFF, 0xFF, 7, 0xFF];
+    assert_eq!(of(&short), (-12, short.to_vec()));
+    assert_eq!(of(&[]), (-12, vec![]));
+    assert_eq!(of(&[9; 4_097]), (-1, vec![9; 4_097]));
+    assert_eq!(of(&[9; 4_096]).0, 0);
+}
+
+/// The state of a mission's sheet of which six bytes of the first curve have come, and a number behind it.
+const OPEN_RECORD: [i64; 14] = [0, 12, 519, 0, 6, 0, 0x0807_3343_0024, 0, 0, 0, 0, 0, 0, -9];
 
 #[test]
 fn parts_of_a_sheet() {
@@ -203,12 +271,15 @@ fn parts_of_a_sheet() {
         let rest = Areas::default();
         told(function, [0; 6], Areas { sheet, out, ..rest })
     };
-    let started = [0, 0, 0, 0, 0, 0, 0, 0, 0, 0, 0, 0, -9];
-    is(&of(Function::PartsStart, &[-9; 13], &[]), 0, &started);
-    is(&of(Function::PartsStart, &[-9; 11], &[]), -12, &[-9; 11]);
+    let started = [0, 0, 0, 0, 0, 0, 0, 0, 0, 0, 0, 0, 0, -9];
+    is(&of(Function::PartsStart, &[-9; 14], &[]), 0, &started);
+    is(&of(Function::PartsStart, &[-9; 12], &[]), -12, &[-9; 12]);
+    let front = two_records()[..6].to_vec();
+    let begun = [&front[..], &[36, 0, b'C', b'3', 7, 8]].concat();
+    is(&of(Function::PartsFeed, &started, &begun), 0, &OPEN_RECORD);
     let rest = [&[0; 30][..], &[1, 2, 3, 4, 5, 6, 7, 0xFF, 9]].concat();
     let held = 0xFF07_0605_0403_0201_u64 as i64;
-    let fed = [0, 45, 1, 36, 0, held, 9, 0, 0, 0, 0, 0, -9];
+    let fed = [0, 51, 519, 1, 42, 0, held, 9, 0, 0, 0, 0, 0, -9];
     is(&of(Function::PartsFeed, &OPEN_RECORD, &rest), 0, &fed);
     is(&of(Function::PartsAsk, &fed, &[]), i64::MIN, &fed);
     let mut ended = fed;
@@ -218,29 +289,34 @@ fn parts_of_a_sheet() {
         (Function::PartsEnd, &ended),
         (Function::PartsAsk, &ended),
     ] {
-        is(&of(function, state, &[]), -(4 + 32 * 36), &ended);
+        is(&of(function, state, &[]), -(4 + 32 * 42), &ended);
     }
     is(&of(Function::PartsFeed, &ended, &[]), -19, &ended);
-    ended[4] = 1;
+    ended[5] = 1;
     for function in [Function::PartsFeed, Function::PartsEnd, Function::PartsAsk] {
         is(&of(function, &ended, &[]), -6, &ended);
-        is(&of(function, &ended[..11], &[]), -12, &ended[..11]);
+        is(&of(function, &ended[..12], &[]), -12, &ended[..12]);
     }
 }
 
 #[test]
 fn reports() {
-    let text = b"sheet 2\n1 C5 still\n2 C3 still\n";
-    let whole = on_sheet(Function::Report, &two_records(), 0, 31);
+    let text = b"mission 519 sheet 2\n1 C5 still\n2 C3 still\n";
+    let whole = on_sheet(Function::Report, &two_records(), 0, 43);
     assert_eq!(
         (whole.returned, whole.after.text),
-        (30, [&text[..], &[0]].concat())
+        (42, [&text[..], &[0]].concat())
     );
-    let short = on_sheet(Function::Report, &two_records(), 0, 29);
-    assert_eq!((short.returned, short.after.text), (-12, vec![0; 29]));
-    let faulty = on_sheet(Function::Report, &two_records()[..87], 0, 16);
+    let short = on_sheet(Function::Report, &two_records(), 0, 41);
+    assert_eq!((short.returned, short.after.text), (-12, vec![0; 41]));
+    let faulty = on_sheet(Function::Report, &two_records()[..93], 0, 16);
     assert_eq!(
         (faulty.returned, &faulty.after.text[..]),
-        (16, &b"refused 2 at 52\n"[..])
+        (16, &b"refused 2 at 58\n"[..])
+    );
+    let erased = on_sheet(Function::Report, &[0xFF; 9], 0, 21);
+    assert_eq!(
+        (erased.returned, &erased.after.text[..]),
+        (21, &b"mission none sheet 0\n"[..])
     );
 }

@@ -3,12 +3,19 @@
 use super::call::{Call, Function};
 use super::chance::Chance;
 use super::shapes::curve;
-use super::sheets::{damage, sheet};
+use super::sheets::{damage, mission, sheet};
 use crate::parts::{state, NUMBERS};
-use crate::sheet::{check, count, record_bytes, LONGEST_RECORD, SHEET_LIMIT};
+use crate::sheet::{
+    check, count, header_bytes, record_bytes, HEADER_LENGTH, LONGEST_RECORD, SHEET_LIMIT,
+};
 
 /// No area that is sent has more bytes.
 const LARGEST: usize = 8_192;
+
+/// The numbers of a state before those that hold bytes.
+const SIZES: usize = 6;
+/// Which of them is the place.
+const PLACE: usize = 4;
 
 /// Of a sheet without fault, now and then a full one.
 pub fn sound_state(chance: &mut Chance, call: &mut Call) {
@@ -42,12 +49,13 @@ pub fn long_state(chance: &mut Chance, call: &mut Call) {
     lay(chance, call, &bytes);
 }
 
-/// One record many times, and perhaps an erased tail.
+/// A header, one record many times, and perhaps an erased tail.
 fn full(chance: &mut Chance) -> Vec<u8> {
     let record = record_bytes(&curve(chance)).expect("coordinates within the range");
-    let most = SHEET_LIMIT / record.len();
+    let most = (SHEET_LIMIT - HEADER_LENGTH) / record.len();
     let few = chance.below(most + 1);
-    let mut bytes = record.repeat(chance.pick(&[most, most, few]));
+    let mut bytes = header_bytes(mission(chance));
+    bytes.extend(record.repeat(chance.pick(&[most, most, few])));
     let tail = chance.pick(&[0, 1, 2, 28, SHEET_LIMIT]);
     bytes.resize(SHEET_LIMIT.min(bytes.len() + tail), 0xFF);
     bytes
@@ -112,7 +120,7 @@ pub fn changed_state(chance: &mut Chance, call: &mut Call) {
     if most == 0 {
         return;
     }
-    let (size, any) = (chance.below(most.min(5)), chance.below(most));
+    let (size, any) = (chance.below(most.min(SIZES)), chance.below(most));
     let (k, by) = if chance.one_in(3) {
         (any, 1 << chance.below(64))
     } else {
@@ -130,30 +138,45 @@ pub fn changed_state(chance: &mut Chance, call: &mut Call) {
     };
 }
 
-/// The place moves, and all behind it: the count of records alone can tell.
+/// The place moves, and all behind it: the count of curves alone can tell.
 pub fn moved_state(chance: &mut Chance, call: &mut Call) {
-    let by = chance.pick(&[1, -1, 8, 16, -16, 36, -36, 52, -52]);
-    for k in [1, 3] {
+    let by = chance.pick(&[1, -1, 6, -6, 8, 16, -16, 36, -36, 52, -52]);
+    for k in [1, PLACE] {
         if let Some(number) = call.before.out.get_mut(k) {
             *number = number.wrapping_add(by);
         }
     }
 }
 
-/// A sound record that is not counted: numbers as of a faulty one, and its kind as it should be.
+/// A sound record that is not counted, the header among them: numbers as of a faulty one, and its kind as it should be.
 pub fn uncounted_record(chance: &mut Chance, call: &mut Call) {
     let mut fed = full(chance);
-    let length = usize::from(fed.first().copied().unwrap_or(0));
-    let records = count(&fed).unwrap_or(0);
-    if records == 0 {
-        return;
-    }
-    let place = length * chance.below(records);
+    let curves = count(&fed).unwrap_or(0);
+    let length = usize::from(fed.get(HEADER_LENGTH).copied().unwrap_or(0));
+    let place = if curves == 0 || chance.one_in(4) {
+        0
+    } else {
+        HEADER_LENGTH + length * chance.below(curves)
+    };
     fed[place + 3] ^= 1;
-    fed.truncate(place + length + chance.below(70));
+    fed.truncate(place + length.max(HEADER_LENGTH) + chance.below(70));
     let mut numbers = state(&fed, chance.one_in(2));
-    numbers[5] ^= 1 << 24;
+    numbers[SIZES] ^= 1 << 24;
     put(call, &numbers);
+}
+
+/// The mission of a state where there is no header yet, or one that no header has.
+pub fn other_mission_state(chance: &mut Chance, call: &mut Call) {
+    let place = call.before.out.get(PLACE).copied();
+    let Some(there) = call.before.out.get_mut(2) else {
+        return;
+    };
+    let any = i64::from(mission(chance));
+    *there = if place == Some(0) {
+        chance.pick(&[1, any, 65_535])
+    } else {
+        chance.pick(&[-1, 65_536, any - 65_536, any + 65_536, any << 16])
+    };
 }
 
 /// The bytes behind the 52 in the last number too, which has room for them.
@@ -173,10 +196,10 @@ pub fn other_state(chance: &mut Chance, call: &mut Call) {
     let mut numbers = [chance.pick(&[0, 0, -1, 1, i64::MIN]); NUMBERS];
     match chance.below(4) {
         0 => numbers.fill_with(|| chance.bits() as i64),
-        1 => numbers[chance.below(5)] = chance.pick(&[1, 2, 4_096, 4_097, 4_098]),
+        1 => numbers[chance.below(SIZES)] = chance.pick(&[1, 2, 6, 4_096, 4_097, 4_098]),
         2 => {
             numbers = state(&[0; SHEET_LIMIT + 1], chance.one_in(2));
-            numbers[chance.below(NUMBERS)] = chance.pick(&[0, 1, 36, 4_097]);
+            numbers[chance.below(NUMBERS)] = chance.pick(&[0, 1, 6, 42, 4_097]);
         }
         _ => (),
     }

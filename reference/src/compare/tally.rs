@@ -1,6 +1,6 @@
 //! How often each outcome of each call was compared, so that a reader sees that every one of them was.
 
-use super::call::{Answer, Call, Function, FUNCTIONS};
+use super::call::{Answer, Areas, Call, Function, FUNCTIONS};
 use super::face::NOT_ENDED;
 use crate::parts::{bytes_with, NUMBERS};
 use crate::refusal::{
@@ -23,18 +23,23 @@ const TRIPLES: [&str; 7] = [
 ];
 const TURNS: [&str; 4] = ["none", "one", "two", "straight"];
 const LEFT: [&str; 3] = ["nothing", "some", "most"];
-/// What a part left: a sheet that is too long, an erased tail or a fault, or else no record more, one or several.
-const FED: [&str; 7] = [
+/// What a part left: a sheet that is too long, an erased tail or a fault, or else no record more, the header alone, one
+/// curve or several.
+const FED: [&str; 8] = [
     "empty",
     "too long",
     "erased",
     "fault",
     "no record",
-    "a record",
+    "the header",
+    "a curve",
     "several",
 ];
 /// Numbers that are no state are RANGE, as a record may be: they are counted apart.
 const NO_STATE: &str = "no state";
+/// So are an all-FF sheet without that curve, which is NUMBER, and a mission that is other in one byte alone.
+const ERASED: &str = "erased";
+const NEARLY: &str = "other in a byte";
 
 struct Row {
     function: Function,
@@ -103,15 +108,14 @@ fn answers(function: Function) -> &'static [&'static str] {
         Function::Recognise => &VERDICTS,
         Function::Inflections => &TURNS,
         Function::Joins => &TRIPLES,
-        Function::Length | Function::Offset | Function::Build | Function::Read | Function::Find => {
-            &["cubic", "quintic"]
-        }
-        Function::Check => &["empty", "curves"],
-        Function::Erase | Function::Append | Function::PartsStart => &["done"],
+        Function::Length | Function::Offset | Function::Build => &["cubic", "quintic"],
+        Function::Read | Function::Find => &["cubic", "quintic", ERASED, NEARLY],
+        Function::Check => &[ERASED, "header alone", "curves"],
+        Function::Erase | Function::Start | Function::Append | Function::PartsStart => &["done"],
         Function::PartsFeed => &FED,
-        Function::PartsEnd => &["empty", "curves", "ended again", NO_STATE],
-        Function::PartsAsk => &["empty", "curves", "not ended", NO_STATE],
-        Function::Report => &["report", "fault"],
+        Function::PartsEnd => &[ERASED, "header alone", "curves", "ended again", NO_STATE],
+        Function::PartsAsk => &[ERASED, "header alone", "curves", "not ended", NO_STATE],
+        Function::Report => &["no mission", "report", "fault"],
         Function::Root => &LEFT,
     }
 }
@@ -127,9 +131,12 @@ fn refusals(function: Function) -> Vec<Refusal> {
         Function::Build => vec![Length, Range, Still, Thirds, Room],
         Function::Joins => vec![Range, DeadEnd, Room],
         Function::Check => SHEET_FAULTS.to_vec(),
-        Function::Read | Function::Find => [&SHEET_FAULTS[..], &[Number, Room]].concat(),
+        Function::Read | Function::Find => {
+            [&SHEET_FAULTS[..], &[OtherMission, Number, Room]].concat()
+        }
         Function::Erase => vec![TooLong],
-        Function::Append => [&SHEET_FAULTS[..], &[Room]].concat(),
+        Function::Start => vec![TooLong, Room],
+        Function::Append => [&SHEET_FAULTS[..], &[NoMission, Room]].concat(),
         Function::Report | Function::Root | Function::PartsStart => vec![Room],
         Function::PartsFeed => vec![Room, Range, Ended],
         Function::PartsEnd | Function::PartsAsk => [&[Room], &SHEET_FAULTS[..]].concat(),
@@ -138,13 +145,8 @@ fn refusals(function: Function) -> Vec<Refusal> {
 
 fn outcome(call: &Call, answer: &Answer) -> &'static str {
     let (out, returned) = (&answer.after.out, answer.returned);
-    let is_state = || out.first_chunk().and_then(bytes_with).is_some();
-    match call.function {
-        Function::PartsEnd | Function::PartsAsk if out.len() >= NUMBERS && !is_state() => {
-            return NO_STATE
-        }
-        _ if returned < 0 && returned != NOT_ENDED => return name_of(-returned % 32),
-        _ => (),
+    if returned < 0 && returned != NOT_ENDED {
+        return refused(call, answer);
     }
     let which = match call.function {
         Function::Recognise => out[0] as usize,
@@ -154,17 +156,62 @@ fn outcome(call: &Call, answer: &Answer) -> &'static str {
         Function::Offset => usize::from(answer.returned == 30),
         Function::Build | Function::Read => usize::from(answer.returned == 12),
         Function::Find => usize::from(out[1] == 52),
-        Function::Check => usize::from(answer.returned > 0),
-        Function::Erase | Function::Append | Function::PartsStart => 0,
+        Function::Check => kind_of_sheet(returned, is_erased(&call.before.sheet)),
+        Function::Erase | Function::Start | Function::Append | Function::PartsStart => 0,
         Function::PartsFeed => kind_of_part(call, out),
-        Function::PartsEnd if call.before.out[0] == 1 => 2,
-        Function::PartsAsk if returned == NOT_ENDED => 2,
-        Function::PartsEnd | Function::PartsAsk => usize::from(returned > 0),
-        Function::Report => usize::from(answer.after.text.starts_with(b"refused")),
+        Function::PartsEnd if call.before.out[0] == 1 => 3,
+        Function::PartsAsk if returned == NOT_ENDED => 3,
+        Function::PartsEnd | Function::PartsAsk => kind_of_sheet(returned, out[4] == 0),
+        Function::Report => kind_of_report(&answer.after.text),
         // Of 0 nothing is left over, which is the most too.
         Function::Root => usize::from(out[1] > 0) + usize::from(out[1] > 0 && out[1] == 2 * out[0]),
     };
     answers(call.function)[which]
+}
+
+/// The refusal's name, or the outcome that is counted apart from it.
+fn refused(call: &Call, answer: &Answer) -> &'static str {
+    let Areas { sheet, out, .. } = &call.before;
+    let number = -answer.returned % 32;
+    let is_state = || out.first_chunk().and_then(bytes_with).is_some();
+    match call.function {
+        Function::PartsEnd | Function::PartsAsk if out.len() >= NUMBERS && !is_state() => NO_STATE,
+        Function::Read | Function::Find if number == Number as i64 && is_erased(sheet) => ERASED,
+        Function::Read | Function::Find if number == OtherMission as i64 && is_near(call) => NEARLY,
+        _ => name_of(number),
+    }
+}
+
+fn is_erased(sheet: &[u8]) -> bool {
+    sheet.iter().all(|&byte| byte == 0xFF)
+}
+
+/// Whether the expected mission has a byte in common with the header's, which are the sheet's fifth and sixth.
+fn is_near(call: &Call) -> bool {
+    let expected = call.singles[0].to_le_bytes();
+    call.before.sheet[4..6]
+        .iter()
+        .zip(expected)
+        .any(|(&a, b)| a == b)
+}
+
+/// Erased, a header alone, or with curves.
+fn kind_of_sheet(curves: i64, erased: bool) -> usize {
+    match (curves, erased) {
+        (0, true) => 0,
+        (0, false) => 1,
+        _ => 2,
+    }
+}
+
+fn kind_of_report(text: &[u8]) -> usize {
+    if text.starts_with(b"mission none") {
+        0
+    } else if text.starts_with(b"mission") {
+        1
+    } else {
+        2
+    }
 }
 
 /// Which of TRIPLES a list is.
@@ -183,11 +230,13 @@ fn kind_of_part(call: &Call, out: &[i64]) -> usize {
         0
     } else if out[1] > SHEET_LIMIT as i64 {
         1
-    } else if out[4] > 1 {
+    } else if out[5] > 1 {
         2
-    } else if out[1] - out[3] > LONGEST_RECORD as i64 {
+    } else if out[1] - out[4] > LONGEST_RECORD as i64 {
         3
+    } else if out[4] == call.before.out[4] {
+        4
     } else {
-        4 + (out[2] - call.before.out[2]).min(2) as usize
+        5 + (out[3] - call.before.out[3]).min(2) as usize
     }
 }

@@ -106,7 +106,7 @@ pub fn joins(ends: [i64; 6], out: &mut [i64]) -> i64 {
 
 /// The count of a sheet's curves, or its first fault with the place.
 pub fn check(sheet: &[u8]) -> i64 {
-    counted(sheet::walk(sheet, |_| ()))
+    counted(sheet::walk(sheet, |_| ()).map(|listed| listed.count))
 }
 
 fn counted(checked: Result<i64, Fault>) -> i64 {

@@ -1,6 +1,6 @@
 //! The sheet in parts: whole records are tested where they lie in a part, and only one that is cut is kept.
 
-use crate::sheet::{cut, erased, found, Fault, Found, SHEET_LIMIT, TOO_LONG};
+use crate::sheet::{cut, erased, first, found, Fault, Found, SHEET_LIMIT, TOO_LONG};
 
 const LONGEST_RECORD: usize = 52;
 
@@ -54,6 +54,16 @@ impl Parts {
         true
     }
 
+    /// At place 0 a header is open, and behind it curves are.
+    #[inline(always)]
+    fn found(&self, rest: &[u8]) -> Found {
+        if self.place == 0 {
+            first(rest)
+        } else {
+            found(rest)
+        }
+    }
+
     /// The open record first, and then those of the part.
     fn feed_open(&mut self, part: &[u8]) {
         let mut rest = part;
@@ -61,7 +71,7 @@ impl Parts {
             let more = part.len().min(LONGEST_RECORD - self.held);
             let held = self.held + more;
             self.record[self.held..held].copy_from_slice(&part[..more]);
-            match found(&self.record[..held]) {
+            match self.found(&self.record[..held]) {
                 Found::Short => self.held = held,
                 Found::Record(length) => {
                     rest = &part[length - self.held..];
@@ -77,7 +87,7 @@ impl Parts {
     }
 
     fn pass(&mut self, length: usize) {
-        self.count += 1;
+        self.count += i64::from(self.place > 0);
         self.place += length;
         self.held = 0;
     }
@@ -86,7 +96,7 @@ impl Parts {
     fn feed_records(&mut self, part: &[u8]) {
         let mut rest = part;
         loop {
-            match found(rest) {
+            match self.found(rest) {
                 Found::Record(length) => {
                     self.pass(length);
                     rest = &rest[length..];

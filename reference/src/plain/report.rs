@@ -1,7 +1,7 @@
 //! The report, written straight into the lent bytes.
 
 use crate::recognise::{verdict, Square, Verdict};
-use crate::sheet::{number, walk, Fault};
+use crate::sheet::{number, walk, Fault, Listed};
 
 /// A lent area that is written from its start. What does not fit is only counted.
 struct Text<'a> {
@@ -81,8 +81,13 @@ pub fn write_report(sheet: &[u8], area: &mut [u8]) -> Option<usize> {
             text.number(place as i64);
             text.word(b"\n");
         }
-        Ok(count) => {
-            text.word(b"sheet ");
+        Ok(Listed { mission, count }) => {
+            text.word(b"mission ");
+            match mission {
+                Some(mission) => text.number(mission.into()),
+                None => text.word(b"none"),
+            }
+            text.word(b" sheet ");
             text.number(count);
             text.word(b"\n");
             let mut at = 0;

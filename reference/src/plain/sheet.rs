@@ -15,12 +15,27 @@ pub const TOO_LONG: Fault = Fault {
     place: 0,
 };
 
-/// Walks over a sheet whole and counts its records; `each` is given every record's points as bytes.
-pub fn walk(sheet: &[u8], mut each: impl FnMut(&[u8])) -> Result<i64, Fault> {
+/// What a sheet without fault has: the number in its header, if there is one, and how many curves.
+#[derive(Clone, Copy)]
+pub struct Listed {
+    pub mission: Option<u16>,
+    pub count: i64,
+}
+
+/// Walks over a sheet whole and counts its curves; `each` is given every curve's points as bytes.
+pub fn walk(sheet: &[u8], mut each: impl FnMut(&[u8])) -> Result<Listed, Fault> {
     if sheet.len() > SHEET_LIMIT {
         return Err(TOO_LONG);
     }
-    let (mut place, mut count) = (0, 0);
+    let Found::Record(mut place) = first(sheet) else {
+        let none = Listed {
+            mission: None,
+            count: 0,
+        };
+        return fault_at(first(sheet), sheet, 0).map_or(Ok(none), Err);
+    };
+    let mission = Some(u16::from_le_bytes([sheet[4], sheet[5]]));
+    let mut count = 0;
     loop {
         let rest = &sheet[place..];
         match found(rest) {
@@ -29,10 +44,19 @@ pub fn walk(sheet: &[u8], mut each: impl FnMut(&[u8])) -> Result<i64, Fault> {
                 place += length;
                 count += 1;
             }
-            Found::Erased => return erased(rest, place).map_or(Ok(count), Err),
-            Found::Short => return cut(rest, place).map_or(Ok(count), Err),
-            Found::Fault(number) => return Err(Fault { number, place }),
+            other => {
+                return fault_at(other, rest, place).map_or(Ok(Listed { mission, count }), Err)
+            }
         }
+    }
+}
+
+/// The fault of a sheet that has no record at a place, if that is one.
+fn fault_at(found: Found, rest: &[u8], place: usize) -> Option<Fault> {
+    match found {
+        Found::Fault(number) => Some(Fault { number, place }),
+        Found::Erased => erased(rest, place),
+        _ => cut(rest, place),
     }
 }
 
@@ -46,7 +70,19 @@ pub enum Found {
     Fault(i64),
 }
 
-/// Inlined, since a call for each record would take as long as its test.
+/// At the sheet's start, where the header has to be.
+pub fn first(rest: &[u8]) -> Found {
+    match rest {
+        [6, 0, b'M', b'N', _, _, ..] => Found::Record(6),
+        [ERASED, ERASED, ..] => Found::Erased,
+        [6, 0, b'M', b'N', ..] => Found::Short,
+        [_, _, b'M', b'N', ..] => Found::Fault(5),
+        [_, _, _, _, ..] => Found::Fault(4),
+        _ => Found::Short,
+    }
+}
+
+/// Behind the header. Inlined, since a call for each record would take as long as its test.
 #[inline(always)]
 pub fn found(rest: &[u8]) -> Found {
     let points = match rest {

@@ -22,16 +22,16 @@ impl Totals {
     /// The count of the sheet's curves, or its fault.
     pub fn add(&mut self, sheet: &[u8]) -> Result<i64, Fault> {
         self.sheets += 1;
-        let checked = walk(sheet, |_| ());
-        if let Err(fault) = checked {
+        if let Err(fault) = walk(sheet, |_| ()) {
             self.refused[fault.number as usize - 1] += 1;
-            return checked;
+            return Err(fault);
         }
         let mut at = 0;
-        walk(sheet, |points| {
+        let listed = walk(sheet, |points| {
             at += 1;
             self.count(at, points);
-        })
+        });
+        listed.map(|listed| listed.count)
     }
 
     fn count(&mut self, at: i64, points: &[u8]) {

@@ -33,7 +33,7 @@ line-of-requires c κs =
     let found = c .before .before in
     let ask = found .before .before in
     let pre = ask .before .before .before .pre in
-    omega (arith, line-short (pre .0 .0), ap (λ a. length (answerLine a)) (told-of ask (found .told .given .1) (pre .0 .0) (pre .0 .1)), pre .1)
+    omega (arith, line-short (pre .0 .0) (pre .0 .1 .bytes), ap (λ a. length (answerLine a)) (told-of ask (found .told .given .1) (pre .0 .0) (pre .0 .1)), pre .1)
 
 enum-told : tie.Need-enum-told
 enum-told c = search needs

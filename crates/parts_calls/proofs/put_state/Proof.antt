@@ -26,47 +26,50 @@ signed-requires-4 c κs = search needs
 signed-requires-5 : tie.Need-signed-requires-5
 signed-requires-5 c κs = search needs
 
-array-read-signed : tie.Need-array-read-signed
-array-read-signed c = search needs
-
 signed-requires-6 : tie.Need-signed-requires-6
 signed-requires-6 c κs = search needs
 
-array-read-signed-2 : tie.Need-array-read-signed-2
-array-read-signed-2 c = search needs
+array-read-signed : tie.Need-array-read-signed
+array-read-signed c = search needs
 
 signed-requires-7 : tie.Need-signed-requires-7
 signed-requires-7 c κs = search needs
 
-array-read-signed-3 : tie.Need-array-read-signed-3
-array-read-signed-3 c = search needs
+array-read-signed-2 : tie.Need-array-read-signed-2
+array-read-signed-2 c = search needs
 
 signed-requires-8 : tie.Need-signed-requires-8
 signed-requires-8 c κs = search needs
 
-array-read-signed-4 : tie.Need-array-read-signed-4
-array-read-signed-4 c = search needs
+array-read-signed-3 : tie.Need-array-read-signed-3
+array-read-signed-3 c = search needs
 
 signed-requires-9 : tie.Need-signed-requires-9
 signed-requires-9 c κs = search needs
 
-array-read-signed-5 : tie.Need-array-read-signed-5
-array-read-signed-5 c = search needs
+array-read-signed-4 : tie.Need-array-read-signed-4
+array-read-signed-4 c = search needs
 
 signed-requires-10 : tie.Need-signed-requires-10
 signed-requires-10 c κs = search needs
 
-array-read-signed-6 : tie.Need-array-read-signed-6
-array-read-signed-6 c = search needs
+array-read-signed-5 : tie.Need-array-read-signed-5
+array-read-signed-5 c = search needs
 
 signed-requires-11 : tie.Need-signed-requires-11
 signed-requires-11 c κs = search needs
 
-array-read-signed-7 : tie.Need-array-read-signed-7
-array-read-signed-7 c = search needs
+array-read-signed-6 : tie.Need-array-read-signed-6
+array-read-signed-6 c = search needs
 
 signed-requires-12 : tie.Need-signed-requires-12
 signed-requires-12 c κs = search needs
+
+array-read-signed-7 : tie.Need-array-read-signed-7
+array-read-signed-7 c = search needs
+
+signed-requires-13 : tie.Need-signed-requires-13
+signed-requires-13 c κs = search needs
 
 slice-aggregate-put : tie.Need-slice-aggregate-put
 slice-aggregate-put c = search needs
@@ -83,7 +86,8 @@ seven c = search needs
 returns : tie.Need-returns
 returns c =
     let put = c .before in
-    let c12 = put .before .before .before in
+    let c13 = put .before .before .before in
+    let c12 = c13 .before in
     let c11 = c12 .before in
     let c10 = c11 .before in
     let c9 = c10 .before in
@@ -111,8 +115,9 @@ returns c =
     ∷ (settled (c10 .signed10 .ok) (c10 .signed10 .ensures) i)
     ∷ (settled (c11 .signed11 .ok) (c11 .signed11 .ensures) i)
     ∷ (settled (c12 .signed12 .ok) (c12 .signed12 .ensures) i)
-    ∷ drop 12 (now (s .area)))
-    ∙ ap (λ (ws : List ℕ). map signed (s .state .ended ∷ s .state .count ∷ s .state .curves ∷ s .state .place ∷ s .state .erased ∷ ws) ++ drop 12 (now (s .area))) (sym (seven-words words (seven (c1 .before))))
+    ∷ (settled (c13 .signed13 .ok) (c13 .signed13 .ensures) i)
+    ∷ drop 13 (now (s .area)))
+    ∙ ap (λ (ws : List ℕ). map signed (s .state .ended ∷ s .state .count ∷ s .state .mission ∷ s .state .curves ∷ s .state .place ∷ s .state .erased ∷ ws) ++ drop 13 (now (s .area))) (sym (seven-words words (seven (c1 .before))))
 
 pub put-state-spec : {M : Type 1} → statement M
 put-state-spec =
@@ -123,20 +128,21 @@ put-state-spec =
     signed-requires-3
     signed-requires-4
     signed-requires-5
-    array-read-signed
     signed-requires-6
-    array-read-signed-2
+    array-read-signed
     signed-requires-7
-    array-read-signed-3
+    array-read-signed-2
     signed-requires-8
-    array-read-signed-4
+    array-read-signed-3
     signed-requires-9
-    array-read-signed-5
+    array-read-signed-4
     signed-requires-10
-    array-read-signed-6
+    array-read-signed-5
     signed-requires-11
-    array-read-signed-7
+    array-read-signed-6
     signed-requires-12
+    array-read-signed-7
+    signed-requires-13
     slice-aggregate-put
     put-requires
     same-length

@@ -80,9 +80,16 @@ shared-slice-copy-out-unsigned-12 c = search needs
 unsigned-requires-12 : tie.Need-unsigned-requires-12
 unsigned-requires-12 c κs = search needs
 
+shared-slice-copy-out-unsigned-13 : tie.Need-shared-slice-copy-out-unsigned-13
+shared-slice-copy-out-unsigned-13 c = search needs
+
+unsigned-requires-13 : tie.Need-unsigned-requires-13
+unsigned-requires-13 c κs = search needs
+
 returns : tie.Need-returns
 returns c =
-    let c11 = c .before .before in
+    let c12 = c .before .before in
+    let c11 = c12 .before .before in
     let c10 = c11 .before .before in
     let c9 = c10 .before .before in
     let c8 = c9 .before .before in
@@ -97,17 +104,18 @@ returns c =
     λ i. record {
       ended = unsigned-read (getD area 0 (pos 0)) (c8 .before .unsigned-arg8 .given) (c8 .unsigned8 .ensures) i;
       count = unsigned-read (getD area 1 (pos 0)) (c9 .before .unsigned-arg9 .given) (c9 .unsigned9 .ensures) i;
-      curves = unsigned-read (getD area 2 (pos 0)) (c10 .before .unsigned-arg10 .given) (c10 .unsigned10 .ensures) i;
-      place = unsigned-read (getD area 3 (pos 0)) (c11 .before .unsigned-arg11 .given) (c11 .unsigned11 .ensures) i;
-      erased = unsigned-read (getD area 4 (pos 0)) (c .before .unsigned-arg12 .given) (c .unsigned12 .ensures) i;
+      mission = unsigned-read (getD area 2 (pos 0)) (c10 .before .unsigned-arg10 .given) (c10 .unsigned10 .ensures) i;
+      curves = unsigned-read (getD area 3 (pos 0)) (c11 .before .unsigned-arg11 .given) (c11 .unsigned11 .ensures) i;
+      place = unsigned-read (getD area 4 (pos 0)) (c12 .before .unsigned-arg12 .given) (c12 .unsigned12 .ensures) i;
+      erased = unsigned-read (getD area 5 (pos 0)) (c .before .unsigned-arg13 .given) (c .unsigned13 .ensures) i;
       words =
-          (unsigned-read (getD area 5 (pos 0)) (c1 .before .unsigned-arg .given) (c1 .unsigned .ensures) i)
-          ∷ (unsigned-read (getD area 6 (pos 0)) (c2 .before .unsigned-arg2 .given) (c2 .unsigned2 .ensures) i)
-          ∷ (unsigned-read (getD area 7 (pos 0)) (c3 .before .unsigned-arg3 .given) (c3 .unsigned3 .ensures) i)
-          ∷ (unsigned-read (getD area 8 (pos 0)) (c4 .before .unsigned-arg4 .given) (c4 .unsigned4 .ensures) i)
-          ∷ (unsigned-read (getD area 9 (pos 0)) (c5 .before .unsigned-arg5 .given) (c5 .unsigned5 .ensures) i)
-          ∷ (unsigned-read (getD area 10 (pos 0)) (c6 .before .unsigned-arg6 .given) (c6 .unsigned6 .ensures) i)
-          ∷ (unsigned-read (getD area 11 (pos 0)) (c7 .before .unsigned-arg7 .given) (c7 .unsigned7 .ensures) i)
+          (unsigned-read (getD area 6 (pos 0)) (c1 .before .unsigned-arg .given) (c1 .unsigned .ensures) i)
+          ∷ (unsigned-read (getD area 7 (pos 0)) (c2 .before .unsigned-arg2 .given) (c2 .unsigned2 .ensures) i)
+          ∷ (unsigned-read (getD area 8 (pos 0)) (c3 .before .unsigned-arg3 .given) (c3 .unsigned3 .ensures) i)
+          ∷ (unsigned-read (getD area 9 (pos 0)) (c4 .before .unsigned-arg4 .given) (c4 .unsigned4 .ensures) i)
+          ∷ (unsigned-read (getD area 10 (pos 0)) (c5 .before .unsigned-arg5 .given) (c5 .unsigned5 .ensures) i)
+          ∷ (unsigned-read (getD area 11 (pos 0)) (c6 .before .unsigned-arg6 .given) (c6 .unsigned6 .ensures) i)
+          ∷ (unsigned-read (getD area 12 (pos 0)) (c7 .before .unsigned-arg7 .given) (c7 .unsigned7 .ensures) i)
           ∷ [];
     }
 
@@ -139,4 +147,6 @@ state-in-spec =
     unsigned-requires-11
     shared-slice-copy-out-unsigned-12
     unsigned-requires-12
+    shared-slice-copy-out-unsigned-13
+    unsigned-requires-13
     returns)

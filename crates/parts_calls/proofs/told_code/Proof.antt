@@ -22,7 +22,7 @@ enum-known-checked : tie.Need-enum-known-checked
 enum-known-checked c = search needs
 
 -- a count of curves is small
-few : (c : tie.After-known-told2) → c .before .checked .given .0 .0 ≤ 113
+few : (c : tie.After-known-told2) → c .before .checked .given .0 .1 .0 ≤ 113
 few c =
     let k = c .before in
     let t = k .before .before .before in
@@ -53,7 +53,7 @@ returns : tie.Need-returns
 returns c =
     let k = c .before in
     let t = k .before .before .before in
-    toZ-pos w64 (k .checked .given .0 .0) (omega (arith, few c)) ∙ sym (ap toldCode (t .told .given .1 ∙ ap told.Sheet (k .checked .given .1)))
+    toZ-pos w64 (k .checked .given .0 .1 .0) (omega (arith, few c)) ∙ sym (ap toldCode (t .told .given .1 ∙ ap told.Sheet (k .checked .given .1)))
 
 returns-2 : tie.Need-returns-2
 returns-2 c =

@@ -36,7 +36,7 @@ returns-2 c =
     let s = wrote .before .before .before .before in
     let t = wrote .write-report .last .1 .0 in
     absurd
-    (room-enough (s .args .sheet .now) (s .args .text .now) t (c .enum-told .given .0 .0) (s .pre)
+    (room-enough (s .args .sheet .now) (wrote .before .before .before .shared-slice-known .given) (s .args .text .now) t (c .enum-told .given .0 .0) (s .pre)
     (subst (Reported (s .args .sheet .now) (s .args .text .now) t) (c .enum-told .given .1) (wrote .write-report .ensures)))
 
 pub report-of-spec : {M : Type 1} → statement M

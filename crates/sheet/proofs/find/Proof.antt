@@ -1,6 +1,6 @@
 -- `find` meets its contract: the part of the sheet where the curve's record is located.
 use borrow.Author.Needs.{needs}
-use mathlib.Core.Path.{_≡_, refl, sym, ap, _∙_, subst}
+use mathlib.Core.Path.{_≡_, refl, ap, _∙_, subst}
 use Prim.Native.Nat.{ℕ, _+_, _-_}
 use native.Mathlib.Omega.{arith}
 use lib.ListN.{take, drop}
@@ -27,11 +27,11 @@ module _ (c : tie.After-known-told) where
   abbrev long : ℕ
   long = c .before .place .given .0 .1 .0
 
-  located : Locates (start .args .sheet .now) (start .args .number) (location.At place long)
-  located = subst (Locates (start .args .sheet .now) (start .args .number)) (c .before .place .given .1) (c .before .before .before .locate .ensures)
+  located : Locates (start .args .sheet .now) (start .args .mission) (start .args .number) (location.At place long)
+  located = subst (Locates (start .args .sheet .now) (start .args .mission) (start .args .number)) (c .before .place .given .1) (c .before .before .before .locate .ensures)
 
 add-result : tie.Need-add-result
-add-result c = let h = located-found _ _ _ _ (located c) in omega (arith, h .0, h .1)
+add-result c = let h = located-found _ _ _ _ _ (located c) in omega (arith, h .0, h .1)
 
 sub-result : tie.Need-sub-result
 sub-result c = search needs
@@ -40,7 +40,7 @@ part-result-start : tie.Need-part-result-start
 part-result-start c = search needs
 
 part-result-end : tie.Need-part-result-end
-part-result-end c = let h = located-found _ _ _ _ (located c) in omega (arith, h .1)
+part-result-end c = let h = located-found _ _ _ _ _ (located c) in omega (arith, h .1)
 
 enum-told : tie.Need-enum-told
 enum-told c = search needs
@@ -52,7 +52,7 @@ returns : tie.Need-returns
 returns c =
     let k = c .before in
     let n : place k + long k - place k ≡ long k = omega arith in
-    let h = located-found _ _ _ _ (located k) in
+    let h = located-found _ _ _ _ _ (located k) in
     record {
       bytes = ap (λ (m : ℕ). take m (drop (place k) (start k .args .sheet .now))) n ∙ h .2;
       block = refl;
@@ -62,7 +62,7 @@ returns c =
 returns-2 : tie.Need-returns-2
 returns-2 c =
     let s = c .before .before .before .before .before in
-    let h = refused-found _ _ (subst (Locates (s .args .sheet .now) (s .args .number)) (c .before .enum-told .given .1) (c .before .before .before .locate .ensures)) in
+    let h = refused-found _ _ _ (subst (Locates (s .args .sheet .now) (s .args .mission) (s .args .number)) (c .before .enum-told .given .1) (c .before .before .before .locate .ensures)) in
     record { bytes = h .0; block = refl; place = omega (arith, h .1) }
 
 pub find-spec : {M : Type 1} → statement M

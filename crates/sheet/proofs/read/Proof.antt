@@ -1,16 +1,17 @@
 -- `read` meets its contract: the curve's record is located, and its bytes hold the curve.
 use borrow.Author.Needs.{needs}
-use mathlib.Core.Path.{_≡_, sym, ap, _∙_, subst}
+use mathlib.Core.Path.{_≡_, subst}
 use mathlib.Core.List.{List}
 use Prim.Native.Nat.{ℕ}
 use native.Mathlib.Omega.{arith}
 use lib.ListN.{drop}
 use Rattle.record.specs.declared.points.Held.{Held}
 use Rattle.record.specs.Promise.{IsHeld}
+use Rattle.sheet.specs.declared.Location.the-variants as location
 use Rattle.sheet.specs.Promise.{Locates}
 use Rattle.sheet.proofs.Passed.{rest-is}
-use Rattle.sheet.proofs.Places.{Stands, stands, fits, held-curve, held-nothing}
-use Rattle.sheet.proofs.Told.{refused-read}
+use Rattle.sheet.proofs.Places.{Stands, fits, held-curve, held-nothing}
+use Rattle.sheet.proofs.Told.{located, located-read, refused-read}
 use Rattle.sheet.proofs.read.Statement.{statement}
 use Rattle.sheet.proofs.read.Tie as tie
 
@@ -28,8 +29,14 @@ module _ (c : tie.After-known-told) where
   abbrev place : ℕ
   place = c .before .place .given .0 .0
 
-  here : Stands (start .args .sheet .now) (start .args .number) place (c .before .place .given .0 .1 .0)
-  here = stands _ _ _ _ (subst (Locates (start .args .sheet .now) (start .args .number)) (c .before .place .given .1) (c .before .before .before .locate .ensures))
+  abbrev long : ℕ
+  long = c .before .place .given .0 .1 .0
+
+  locates : Locates (start .args .sheet .now) (start .args .mission) (start .args .number) (location.At place long)
+  locates = subst (Locates (start .args .sheet .now) (start .args .mission) (start .args .number)) (c .before .place .given .1) (c .before .before .before .locate .ensures)
+
+  here : Stands (start .args .sheet .now) (start .args .number) place long
+  here = located _ _ _ _ _ locates .here
 
 sub-held-curve : tie.Need-sub-held-curve
 sub-held-curve c = omega (arith, fits (here c))
@@ -65,7 +72,8 @@ enum-known-f c = search needs
 returns : tie.Need-returns
 returns c =
     let held = c .before .before .before in
-    held-curve (here (held .before .before)) (c .before .curve .given .0 .0) _ (held-there held (c .before .curve .given .1)) .0
+    let at = held .before .before in
+    located-read _ _ _ _ _ (locates at) (c .before .curve .given .0 .0) (held-curve (here at) (c .before .curve .given .0 .0) _ (held-there held (c .before .curve .given .1)) .0)
 
 returns-2 : tie.Need-returns-2
 returns-2 c =
@@ -76,7 +84,7 @@ returns-3 : tie.Need-returns-3
 returns-3 c =
     let located = c .before .before .before in
     let start = located .before .before in
-    refused-read _ _ (subst (Locates (start .args .sheet .now) (start .args .number)) (c .before .f .given .1) (located .locate .ensures))
+    refused-read _ _ _ (subst (Locates (start .args .sheet .now) (start .args .mission) (start .args .number)) (c .before .f .given .1) (located .locate .ensures))
 
 pub read-spec : {M : Type 1} → statement M
 read-spec =

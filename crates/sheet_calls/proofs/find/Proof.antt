@@ -31,19 +31,19 @@ module _ (c : tie.After-known-told) where
   abbrev long : ℕ
   long = c .before .place .given .0 .1 .0
 
-  found : Locates (c .before .before .before .before .before .args .s .now) (c .before .before .before .before .before .args .number) (location.At place long)
+  found : Locates (c .before .before .before .before .before .args .s .now) (c .before .before .before .before .before .args .mission) (c .before .before .before .before .before .args .number) (location.At place long)
   found =
       let s = c .before .before .before .before .before .args in
-      subst (Locates (s .s .now) (s .number)) (c .before .place .given .1) (c .before .before .before .locate .ensures)
+      subst (Locates (s .s .now) (s .mission) (s .number)) (c .before .place .given .1) (c .before .before .before .locate .ensures)
 
   small : (place ≤ longest) × (long ≤ longest)
-  small = let h = located-found _ _ _ _ found in (omega (arith, h .0, h .1), omega (arith, h .0, h .1))
-
-cast-t11 : tie.Need-cast-t11
-cast-t11 c = record { sfits = omega (arith, small c) }
+  small = let h = located-found _ _ _ _ _ found in (omega (arith, h .0, h .1), omega (arith, h .0, h .1))
 
 cast-t12 : tie.Need-cast-t12
 cast-t12 c = record { sfits = omega (arith, small c) }
+
+cast-t13 : tie.Need-cast-t13
+cast-t13 c = record { sfits = omega (arith, small c) }
 
 slice-aggregate-hand : tie.Need-slice-aggregate-hand
 slice-aggregate-hand c = search needs
@@ -66,7 +66,7 @@ returns c =
     let s = k .before .before .before .before .before .args in
     let p = toZ-pos w64 (place k) (omega (arith, small k)) in
     let n = toZ-pos w64 (long k) (omega (arith, small k)) in
-    hands-same ((λ i. given (p i ∷ n i ∷ [])) ∙ ap (with-given (map pos)) (found k) ∙ with-twice placeOf (map pos) (chosen (s .number) (s .s .now)))
+    hands-same ((λ i. given (p i ∷ n i ∷ [])) ∙ ap (with-given (map pos)) (found k) ∙ with-twice placeOf (map pos) (chosen (s .mission) (s .number) (s .s .now)))
     (c .before .hand .ok) (c .before .hand .ensures)
 
 same-length-2 : tie.Need-same-length-2
@@ -77,8 +77,8 @@ returns-2 c =
     let k = c .before .before .before .before in
     let m = k .before .before in
     let s = m .before .before .args in
-    let is = subst (Locates (s .s .now) (s .number)) (k .f .given .1) (m .locate .ensures) in
-    hands-same (ap (with-given (map pos)) is ∙ with-twice placeOf (map pos) (chosen (s .number) (s .s .now)))
+    let is = subst (Locates (s .s .now) (s .mission) (s .number)) (k .f .given .1) (m .locate .ensures) in
+    hands-same (ap (with-given (map pos)) is ∙ with-twice placeOf (map pos) (chosen (s .mission) (s .number) (s .s .now)))
     (c .before .faulted .ok) (c .before .faulted .ensures)
 
 pub find-spec : {M : Type 1} → statement M
@@ -87,8 +87,8 @@ find-spec =
     (tie.spec
     locate-requires
     enum-known-place
-    cast-t11
     cast-t12
+    cast-t13
     slice-aggregate-hand
     hand-requires
     enum-known-f

@@ -33,8 +33,8 @@ returns c =
     let k = c .before .before .before .before in
     let m = k .before .before in
     let s = m .before .before .args in
-    let is = subst (Reads (s .s .now) (s .number)) (k .curve .given .1) (m .read .ensures) in
-    hands-same (ap (with-given numbersOf) is ∙ with-twice pointsOfEntry numbersOf (chosen (s .number) (s .s .now)))
+    let is = subst (Reads (s .s .now) (s .mission) (s .number)) (k .curve .given .1) (m .read .ensures) in
+    hands-same (ap (with-given numbersOf) is ∙ with-twice pointsOfEntry numbersOf (chosen (s .mission) (s .number) (s .s .now)))
     (c .before .hand-curve .ok) (c .before .hand-curve .ensures)
 
 same-length-2 : tie.Need-same-length-2
@@ -45,8 +45,8 @@ returns-2 c =
     let k = c .before .before .before .before in
     let m = k .before .before in
     let s = m .before .before .args in
-    let is = subst (Reads (s .s .now) (s .number)) (k .f .given .1) (m .read .ensures) in
-    hands-same (ap (with-given numbersOf) is ∙ with-twice pointsOfEntry numbersOf (chosen (s .number) (s .s .now)))
+    let is = subst (Reads (s .s .now) (s .mission) (s .number)) (k .f .given .1) (m .read .ensures) in
+    hands-same (ap (with-given numbersOf) is ∙ with-twice pointsOfEntry numbersOf (chosen (s .mission) (s .number) (s .s .now)))
     (c .before .faulted .ok) (c .before .faulted .ensures)
 
 pub read-spec : {M : Type 1} → statement M

@@ -31,8 +31,8 @@ module _ (c : tie.After-known-told) where
       let s = from .before .before .before .before .args in
       subst (Reported (s .s .now) (s .text .now) (from .write-report .last .1 .0)) (c .before .n .given .1) (from .write-report .ensures)
 
-  short : c .before .n .given .0 .0 ≤ 5321
-  short = written-short _ _ _ _ done
+  short : c .before .n .given .0 .0 ≤ 5335
+  short = written-short _ (from .before .before .before .shared-slice-known .given) _ _ _ done
 
 cast-result : tie.Need-cast-result
 cast-result c = record { sfits = omega (arith, short c) }

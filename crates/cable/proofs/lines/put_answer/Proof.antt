@@ -1,4 +1,4 @@
--- `lines::put_answer` meets its contract: how many curves, or the refusal.
+-- `lines::put_answer` meets its contract: the mission and how many curves, or the refusal.
 use mathlib.Core.Path.{sym, ap}
 use Rattle.text.proofs.Pieces.{writes-same}
 use Rattle.sheet.specs.declared.Checked.{Checked}

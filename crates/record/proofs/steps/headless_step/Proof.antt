@@ -54,31 +54,54 @@ returns-5 c =
 kind-in-requires : tie.Need-kind-in-requires
 kind-in-requires c κs = search needs
 
+enum-known-kind : tie.Need-enum-known-kind
+enum-known-kind c = search needs
+
+may-stand-requires : tie.Need-may-stand-requires
+may-stand-requires c κs = search needs
+
 enum-told : tie.Need-enum-told
 enum-told c = search needs
 
-enum-told-2 : tie.Need-enum-told-2
-enum-told-2 c = search needs
-
+-- a kind that may stand there has another length
 returns-6 : tie.Need-returns-6
 unfolding stepOf sizedStep if_then_else_
 returns-6 c =
-    let k = c .before .before in
+    let known = c .before .before .before in
+    let k = known .before .before in
     let e = k .before in
-    let rest = e .before .before .before .before .before .before .args .rest .now in
-    let told = sym (k .kind-in .ensures) ∙ c .enum-told .given .1 in
+    let start = e .before .before .before .before .before .before in
+    let rest = start .args .rest .now in
+    let told = sym (k .kind-in .ensures) ∙ known .kind .given .1 in
+    let may = sym (c .before .may-stand .ensures) ∙ c .if6 .taken in
     rw (
       ne-eqb _ _ (e .before .before .before .before .if1 .left),
       ne-eqb _ _ (e .before .before .before .if2 .left),
       ne-eqb _ _ (λ z. e .before .if4 .left (e .before .before .half-at .ensures .0 ∙ z)),
       le-ltb _ 4 (e .if5 .left),
       told,
-      ne-eqb _ _ (λ z. e .before .before .before .before .before .before .pre _ (head-made _ rest (e .if5 .left) z (named-is kinds rest _ told))),
+      may,
+      ne-eqb _ _ (λ z. start .pre _ may (head-made _ rest (e .if5 .left) z (named-is kinds rest _ told))),
     )
 
 returns-7 : tie.Need-returns-7
 unfolding stepOf if_then_else_
 returns-7 c =
+    let known = c .before .before .before in
+    let k = known .before .before in
+    let e = k .before in
+    rw (
+      ne-eqb _ _ (e .before .before .before .before .if1 .left),
+      ne-eqb _ _ (e .before .before .before .if2 .left),
+      ne-eqb _ _ (λ z. e .before .if4 .left (e .before .before .half-at .ensures .0 ∙ z)),
+      le-ltb _ 4 (e .if5 .left),
+      sym (k .kind-in .ensures) ∙ known .kind .given .1,
+      sym (c .before .may-stand .ensures) ∙ c .if6 .left,
+    )
+
+returns-8 : tie.Need-returns-8
+unfolding stepOf if_then_else_
+returns-8 c =
     let k = c .before .before in
     let e = k .before in
     rw (
@@ -86,7 +109,7 @@ returns-7 c =
       ne-eqb _ _ (e .before .before .before .if2 .left),
       ne-eqb _ _ (λ z. e .before .if4 .left (e .before .before .half-at .ensures .0 ∙ z)),
       le-ltb _ 4 (e .if5 .left),
-      sym (k .kind-in .ensures) ∙ c .enum-told2 .given .1,
+      sym (k .kind-in .ensures) ∙ c .enum-told .given .1,
     )
 
 pub headless-step-spec : {M : Type 1} → statement M
@@ -102,7 +125,9 @@ headless-step-spec =
     returns-4
     returns-5
     kind-in-requires
+    enum-known-kind
+    may-stand-requires
     enum-told
-    enum-told-2
     returns-6
-    returns-7)
+    returns-7
+    returns-8)

@@ -31,10 +31,10 @@ module _ (c : tie.After-row-of) where
   size-is = ap (λ (r : Row). r .size) (c .row-of .ensures)
 
   sized : sizeOf rest ≡ rowOf kind .size
-  sized = head-size kind rest (c .before .shared-slice-known .given) (c .before .before .pre)
+  sized = head-size kind rest (c .before .shared-slice-known .given) (c .before .before .pre .1)
 
-  step-is : stepOf rest ≡ sizedStep kind rest
-  step-is = headed-step kind rest (c .before .shared-slice-known .given) (c .before .before .pre)
+  step-is : stepOf (c .before .before .args .first) rest ≡ sizedStep kind rest
+  step-is = headed-step kind rest (c .before .shared-slice-known .given) (c .before .before .pre .1) (c .before .before .args .first) (c .before .before .pre .0)
 
 returns : tie.Need-returns
 unfolding sizedStep if_then_else_

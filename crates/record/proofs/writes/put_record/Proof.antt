@@ -1,7 +1,6 @@
 -- `writes::put_record` meets its contract: the head, and then the numbers.
 use mathlib.Core.Path.{ap, _∙_}
 use mathlib.Core.List.{List, _++_}
-use native.Mathlib.Omega.{arith}
 use lib.ListN.{take}
 use Rattle.record.specs.Numbers.{encoded}
 use Rattle.record.proofs.Table.{head-body}

@@ -1,8 +1,11 @@
--- `lines::put_first_line` meets its contract: how many curves there are, and the line's end.
+-- `lines::put_first_line` meets its contract: the mission, how many curves there are, and the line's end.
 use borrow.Author.Needs.{needs}
 use Rattle.text.proofs.Pieces.{_then_}
 use Rattle.report_text.proofs.lines.put_first_line.Statement.{statement}
 use Rattle.report_text.proofs.lines.put_first_line.Tie as tie
+
+put-mission-requires : tie.Need-put-mission-requires
+put-mission-requires c κs = search needs
 
 slice-aggregate-put-labelled : tie.Need-slice-aggregate-put-labelled
 slice-aggregate-put-labelled c = search needs
@@ -23,12 +26,14 @@ returns : tie.Need-returns
 returns c =
     let end = c .before .before in
     let first = end .before .before .before .before .before in
-    first .put-labelled .ensures then end .put .ensures
+    let mission = first .before .before .before .before .before in
+    mission .put-mission .ensures then first .put-labelled .ensures then end .put .ensures
 
 pub put-first-line-spec : {M : Type 1} → statement M
 put-first-line-spec =
     tie.close
     (tie.spec
+    put-mission-requires
     slice-aggregate-put-labelled
     put-labelled-requires
     slice-aggregate-put

@@ -1,7 +1,6 @@
 -- `lines::put_kind` meets its contract: the kind's name, between blanks.
 use borrow.Author.Needs.{needs}
 use mathlib.Core.Path.{ap, _∙_}
-use Rattle.record.specs.declared.kinds.Kind.{Kind}
 use Rattle.record.specs.declared.kinds.Row.{Row}
 use Rattle.record.specs.Kinds.{rowOf}
 use Rattle.text.proofs.Pieces.{_then_, writes-same}

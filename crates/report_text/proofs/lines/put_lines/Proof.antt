@@ -1,18 +1,20 @@
 -- `lines::put_lines` meets its contract. Invariant: the lines of the first k curves are written, and the next record stands at `next`.
 use borrow.Author.Needs.{needs}
-use mathlib.Core.Path.{_≡_, refl, _∙_, subst}
+use mathlib.Core.Path.{_≡_, refl, sym, ap, _∙_, subst}
 use mathlib.Core.List.{List}
 use Prim.Native.Nat.{ℕ, suc, _+_, _-_, _≤_, _<_}
 use native.Mathlib.Omega.{arith}
 use lib.ListN.{length, drop}
 use Rattle.curve.specs.declared.Curve.{Curve}
+use Rattle.record.specs.declared.kinds.Kind.the-variants.{Header}
+use Rattle.record.specs.declared.kinds.Row.{Row}
+use Rattle.record.specs.Kinds.{rowOf}
 use Rattle.record.specs.declared.points.Held.{Held}
 use Rattle.record.specs.Promise.{IsHeld}
-use Rattle.sheet.specs.declared.Reading.the-variants as reading
-use Rattle.sheet.specs.Promise.{Reads}
+use Rattle.sheet.specs.Promise.{HasCurve}
 use Rattle.sheet.proofs.Passed.{rest-is}
 use Rattle.sheet.proofs.Places.{first-stands}
-use Rattle.sheet.proofs.Ahead.{read-in-range, Ahead, ahead-fits, ahead-near, ahead-held, passed}
+use Rattle.sheet.proofs.Ahead.{curve-in-range, Ahead, ahead-fits, ahead-near, ahead-held, passed}
 use Rattle.report_text.specs.Steps.{WritesLines}
 use Rattle.report_text.proofs.Lined.{lines-none, lines-more}
 use Rattle.report_text.proofs.lines.put_lines.Statement.{statement}
@@ -24,13 +26,23 @@ Inv-loop area₀ sheet count at₀ next₀ k₀ area at next k = (k ≤ count) �
 abbrev μ-loop : tie.MeasureT-loop
 μ-loop area₀ sheet count at₀ next₀ k₀ area at next k = count - k
 
+row-of-requires : tie.Need-row-of-requires Inv-loop μ-loop
+row-of-requires c κs = search needs
+
 loop-holds : tie.Need-loop-holds Inv-loop μ-loop
-loop-holds c = let s = c .before .before in (omega arith, refl, lines-none _ _ _, first-stands (s .args .sheet .now) (s .args .count) (s .pre))
+loop-holds c =
+    let s = c .before .before .before in
+    let size : c .row-of .result .size ≡ rowOf Header .size = ap (λ (r : Row). r .size) (c .row-of .ensures) in (
+      omega arith,
+      refl,
+      lines-none _ _ _,
+      subst (Ahead (s .args .sheet .now) (s .args .count) 0) (sym size) (first-stands (s .args .sheet .now) (s .args .count) (s .pre)),
+    )
 
 -- the record ahead
 module _ (c : tie.In-loop Inv-loop μ-loop) where
   abbrev start : tie.Start Inv-loop μ-loop
-  start = let l = c .before in l .before .before .before
+  start = let l = c .before in l .before .before .before .before
 
   abbrev sheet : List ℕ
   sheet = start .args .sheet .now
@@ -93,7 +105,7 @@ module _ (c : tie.After-known-told Inv-loop μ-loop) where
   abbrev size : ℕ
   size = c .before .curve .given .0 .1 .0
 
-  read : Reads (sheet inside) (suc (k inside)) (reading.Points curve) × (size ≡ ahead inside (left inside) .0) × Ahead (sheet inside) (count inside) (k inside + 1) (next inside + size)
+  read : HasCurve (sheet inside) (suc (k inside)) curve × (size ≡ ahead inside (left inside) .0) × Ahead (sheet inside) (count inside) (k inside + 1) (next inside + size)
   read =
       passed (sheet inside) (count inside) (k inside) (next inside) (left inside) (ahead inside) (start inside .pre) curve size
       (held-there (c .before .before .before) (c .before .curve .given .1))
@@ -107,7 +119,7 @@ add-k : tie.Need-add-k Inv-loop μ-loop
 add-k c = omega (arith, left (inside c))
 
 put-line-requires : tie.Need-put-line-requires Inv-loop μ-loop
-put-line-requires c κs = let f = c .before in read-in-range (sheet (inside f)) (suc (k (inside f))) (curve f) (read f .0)
+put-line-requires c κs = let f = c .before in curve-in-range (sheet (inside f)) (suc (k (inside f))) (curve f) (read f .0)
 
 loop-less : tie.Need-loop-less Inv-loop μ-loop
 loop-less c = omega (arith, left (inside (c .before .before .before .before)))
@@ -124,7 +136,7 @@ same-length-2 c = search needs
 
 returns-2 : tie.Need-returns-2 Inv-loop μ-loop
 returns-2 c =
-    let s = c .before .before .before .before .args in
+    let s = c .before .before .before .before .before .args in
     let l = c .before .loop in
     subst (λ (n : ℕ). WritesLines (s .area .now) (s .place) (s .sheet .now) n (l .area) (l .at)) (omega arith) (l .inv .2)
 
@@ -134,6 +146,7 @@ put-lines-spec =
     (tie.spec
     Inv-loop
     μ-loop
+    row-of-requires
     loop-holds
     sub-held-curve
     part-held-curve-start

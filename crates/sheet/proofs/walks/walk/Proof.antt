@@ -17,10 +17,10 @@ use Rattle.sheet.proofs.walks.walk.Statement.{statement}
 use Rattle.sheet.proofs.walks.walk.Tie as tie
 
 abbrev Inv-loop : tie.InvT-loop
-Inv-loop sheet number at₀ curves₀ from₀ to₀ at curves from to = Passed sheet number at curves from to
+Inv-loop sheet first number now₀ at₀ curves₀ from₀ to₀ now at curves from to = Passed sheet first number now at curves from to
 
 abbrev μ-loop : tie.MeasureT-loop
-μ-loop sheet number at₀ curves₀ from₀ to₀ at curves from to = length sheet - at
+μ-loop sheet first number now₀ at₀ curves₀ from₀ to₀ now at curves from to = length sheet - at
 
 nowhere-requires : tie.Need-nowhere-requires Inv-loop μ-loop
 nowhere-requires c κs = search needs
@@ -29,10 +29,10 @@ faulty-requires : tie.Need-faulty-requires Inv-loop μ-loop
 faulty-requires c κs = search needs
 
 returns : tie.Need-returns Inv-loop μ-loop
-returns c = subst (Walks _ _) (sym (c .faulty .ensures)) (walked-long _ _ (c .before .before .if1 .taken) (c .before .nowhere .ensures))
+returns c = subst (Walks _ _ _) (sym (c .faulty .ensures)) (walked-long _ _ _ (c .before .before .if1 .taken) (c .before .nowhere .ensures))
 
 loop-holds : tie.Need-loop-holds Inv-loop μ-loop
-loop-holds c = passed-none _ _
+loop-holds c = passed-none _ _ _
 
 sub-step-of : tie.Need-sub-step-of Inv-loop μ-loop
 sub-step-of c = c .loop .inv .room
@@ -57,8 +57,8 @@ module _ (c : tie.After-step-of Inv-loop μ-loop) where
   short : length sheet ≤ longest
   short = head .before .if1 .left
 
-  step-is : c .step-of .result ≡ stepOf (drop (head .loop .at) sheet)
-  step-is = c .step-of .ensures ∙ ap stepOf (rest-is sheet (head .loop .at))
+  step-is : c .step-of .result ≡ stepOf (head .loop .first) (drop (head .loop .at) sheet)
+  step-is = c .step-of .ensures ∙ ap (stepOf (head .loop .first)) (rest-is sheet (head .loop .at))
 
 enum-told : tie.Need-enum-told Inv-loop μ-loop
 enum-told c = search needs
@@ -70,7 +70,7 @@ returns-2 : tie.Need-returns-2 Inv-loop μ-loop
 returns-2 c =
     let told = c .before in
     let k = told .before .before in
-    subst (Walks _ _) (sym (c .sound .ensures)) (sound-here (head k .loop .inv) (short k) (sym (step-is k) ∙ told .enum-told .given .1))
+    subst (Walks _ _ _) (sym (c .sound .ensures)) (sound-here (head k .loop .inv) (short k) (sym (step-is k) ∙ told .enum-told .given .1))
 
 enum-known-refusal : tie.Need-enum-known-refusal Inv-loop μ-loop
 enum-known-refusal c = search needs
@@ -79,7 +79,7 @@ enum-known-refusal c = search needs
 within : (c : tie.After-known-told Inv-loop μ-loop) → let k = c .before .before .before in head k .loop .at + c .before .refusal .given .0 .1 .0 ≤ longest
 within c =
     let k = c .before .before .before in
-    let near = fault-near _ _ _ (sym (step-is k) ∙ c .before .refusal .given .1) in
+    let near = fault-near _ _ _ _ (sym (step-is k) ∙ c .before .refusal .given .1) in
     omega (arith, near, length-drop (head k .loop .at) (sheet k), short k, head k .loop .inv .room)
 
 add-place : tie.Need-add-place Inv-loop μ-loop
@@ -95,7 +95,7 @@ returns-3 : tie.Need-returns-3 Inv-loop μ-loop
 returns-3 c =
     let known = c .before in
     let k = known .before .before .before in
-    subst (Walks _ _) (sym (c .faulty2 .ensures)) (fault-here (head k .loop .inv) (short k) (sym (step-is k) ∙ known .before .refusal .given .1))
+    subst (Walks _ _ _) (sym (c .faulty2 .ensures)) (fault-here (head k .loop .inv) (short k) (sym (step-is k) ∙ known .before .refusal .given .1))
 
 enum-known-kind : tie.Need-enum-known-kind Inv-loop μ-loop
 enum-known-kind c = search needs
@@ -117,10 +117,10 @@ module _ (c : tie.After-struct-known Inv-loop μ-loop) where
   abbrev size : ℕ
   size = c .before .row-of .result .size
 
-  passed : Passed (sheet stepped) (head stepped .before .before .before .args .number) place (head stepped .loop .curves) (head stepped .loop .from) (head stepped .loop .to)
+  passed : Passed (sheet stepped) (head stepped .before .before .before .args .first) (head stepped .before .before .before .args .number) (head stepped .loop .first) place (head stepped .loop .curves) (head stepped .loop .from) (head stepped .loop .to)
   passed = head stepped .loop .inv
 
-  record-is : stepOf (drop place (sheet stepped)) ≡ step.Record kind
+  record-is : stepOf (head stepped .loop .first) (drop place (sheet stepped)) ≡ step.Record kind
   record-is = sym (step-is stepped) ∙ c .before .before .before .kind .given .1
 
   size-is : size ≡ rowOf kind .size

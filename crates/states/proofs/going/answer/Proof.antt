@@ -12,10 +12,11 @@ use Rattle.refusal.specs.Answers.{if_then_else_}
 use Rattle.record.specs.declared.steps.Step.{Step}
 use Rattle.record.specs.declared.steps.Step.the-variants as step
 use Rattle.record.proofs.steps.Step.{the-type}
+use Rattle.sheet.specs.declared.Mission.{Mission}
 use Rattle.sheet.specs.declared.Checked.the-variants as checked
-use Rattle.sheet.specs.Survey.{survey}
+use Rattle.sheet.specs.Survey.{surveyOf}
 use Rattle.states.specs.declared.State.{State}
-use Rattle.states.specs.Steps.{frontIn, answerBy, answerWith, answerIn, Standing}
+use Rattle.states.specs.Steps.{firstIn, frontIn, soundIn, answerBy, answerWith, answerIn, Standing}
 use Rattle.states.proofs.Possible.{short-stands}
 use Rattle.states.proofs.Answered.{front-long, answer-by, fault-within, leftover-within}
 use Rattle.states.proofs.going.answer.Statement.{statement}
@@ -68,13 +69,13 @@ walk-requires c κs = search needs
 -- and the answer is by the ending that it finds
 module _ (c : tie.After-walk) where
   abbrev stood : State
-  stood = st (known (c .before))
+  stood = st (known (c .before .before))
 
   standing : Standing stood
-  standing = stands (known (c .before))
+  standing = stands (known (c .before .before))
 
-  ending-is : survey (frontIn stood) .ending ≡ c .walk .result .ending
-  ending-is = sym (c .walk .ensures .ending-is ∙ ap (λ (s : List ℕ). survey s .ending) (front-is (c .before)))
+  ending-is : surveyOf (firstIn stood) (frontIn stood) .ending ≡ c .walk .result .ending
+  ending-is = sym (c .walk .ensures .ending-is ∙ ap (λ (s : List ℕ). surveyOf (firstIn stood) s .ending) (front-is (c .before .before)))
 
   by-walk : answerIn stood ≡ answerWith stood (c .walk .result .ending)
   by-walk = answer-by standing ∙ ap (answerWith stood) ending-is
@@ -114,6 +115,9 @@ fault-behind-requires-2 c κs =
     let k = told .before .before in
     leftover-within (standing (walked k)) _ _ (sym (k .erased-end .ensures) ∙ told .refusal .given .1)
 
+mission-of-requires : tie.Need-mission-of-requires
+mission-of-requires c κs = standing (walked (c .before)) .mission .two-bytes
+
 returns-2 : tie.Need-returns-2
 returns-2 c =
     let told = c .before .before .before in
@@ -127,13 +131,16 @@ returns-3 c =
     c .fault-behind2 .ensures ∙ sym (by-step k ∙ ap (answerBy (stood (walked k))) (told .refusal .given .1))
 
 -- a step that is no fault, by the number of its variant
-no-fault : (st : State) (x : Step) → (tagOf the-type x ≡ 0) ⊎ (tagOf the-type x ≡ 2) → answerBy st x ≡ checked.Curves (st .curves)
+no-fault : (st : State) (x : Step) → (tagOf the-type x ≡ 0) ⊎ (tagOf the-type x ≡ 2) → answerBy st x ≡ soundIn st
 no-fault st step.Ends t = refl
 no-fault st (step.Fault r offset) t = ⊎-elim (λ i. absurd (omega arith)) (λ i. absurd (omega arith)) t
 no-fault st (step.Record k) t = refl
 
 returns-4 : tie.Need-returns-4
-returns-4 c = let k = c .before in sym (by-step k ∙ no-fault (stood (walked k)) (k .erased-end .result) (c .match2 .keys2))
+returns-4 c =
+    let k = c .before .before in
+    let st = stood (walked k) in
+    ap (λ (m : Mission). checked.Sheet m (st .curves)) (c .mission-of .ensures) ∙ sym (by-step k ∙ no-fault st (k .erased-end .result) (c .before .match2 .keys2))
 
 pub answer-spec : {M : Type 1} → statement M
 answer-spec =
@@ -155,6 +162,7 @@ answer-spec =
     erased-end-requires
     enum-known-refusal
     fault-behind-requires-2
+    mission-of-requires
     returns-2
     returns-3
     returns-4)

@@ -1,6 +1,7 @@
 -- `going::onward` meets its contract: by whether the part completes a record.
 use borrow.Author.Needs.{needs}
 use mathlib.Core.Path.{_≡_, refl, sym, ap, _∙_, subst}
+use mathlib.Core.Bool.{Bool}
 use mathlib.Core.List.{List}
 use Prim.Native.Nat.{ℕ, _+_, _-_, _≤_, _<_, min}
 use native.Mathlib.Omega.{arith}
@@ -10,16 +11,16 @@ use borrow.Author.Tests.{eq-eqb, ne-eqb}
 use denote.Ref.{now}
 use Rattle.refusal.specs.Answers.{if_then_else_}
 use Rattle.record.specs.Kinds.{longestRecord}
-use Rattle.sheet.specs.Survey.{survey}
+use Rattle.sheet.specs.Survey.{surveyOf}
 use Rattle.sheet.specs.Promise.{countOf}
 use Rattle.sheet.proofs.Surveys.{end-within}
-use Rattle.sheet.proofs.Faults.{curves-few}
+use Rattle.sheet.proofs.Faults.{walked-few}
 use Rattle.sheet.proofs.Passed.{rest-is}
 use Rattle.states.specs.declared.State.{State}
 use Rattle.states.specs.Words.{packed, unpacked}
-use Rattle.states.specs.Steps.{behindIn, heldIn, frontIn, joinedTo, joined, padded, afterRecords, grown, onward}
-use Rattle.states.proofs.Pieces.{packed-zeros, padded-all}
-use Rattle.states.proofs.Fronts.{seven-words, held-long, joined-long, starts-later}
+use Rattle.states.specs.Steps.{firstIn, behindIn, heldIn, frontIn, joinedTo, joined, padded, missionOn, afterRecords, grown, onward}
+use Rattle.states.proofs.Pieces.{packed-zeros, mission-padded, padded-all}
+use Rattle.states.proofs.Fronts.{curves-within, seven-words, held-long, joined-long, starts-later}
 use Rattle.states.proofs.going.onward.Statement.{statement}
 use Rattle.states.proofs.going.onward.Tie as tie
 
@@ -95,63 +96,81 @@ walk-requires c κs = search needs
 
 -- the records that the walk finds end behind the bytes of the state, and within the part
 module _ (c : tie.After-walk) where
+  abbrev stood : tie.After-front
+  stood = c .before .before
+
+  abbrev first : Bool
+  first = firstIn (state stood)
+
   abbrev seen : List ℕ
-  seen = joined (state (c .before)) (part (c .before))
+  seen = joined (state stood) (part stood)
 
-  end-is : c .walk .result .end ≡ survey seen .end
-  end-is = c .walk .ensures .end-is ∙ ap (λ (x : List ℕ). survey x .end) (seen-is (c .before))
+  end-is : c .walk .result .end ≡ surveyOf first seen .end
+  end-is = c .walk .ensures .end-is ∙ ap (λ (x : List ℕ). surveyOf first x .end) (seen-is stood)
 
-  counts-is : c .walk .result .curves ≡ countOf (survey seen .records)
-  counts-is = c .walk .ensures .curves-is ∙ ap (λ (x : List ℕ). countOf (survey x .records)) (seen-is (c .before))
+  counts-is : c .walk .result .curves ≡ countOf (surveyOf first seen .records)
+  counts-is = c .walk .ensures .curves-is ∙ ap (λ (x : List ℕ). countOf (surveyOf first x .records)) (seen-is stood)
 
-  long-is : length seen ≡ min (heldIn (state (c .before)) + length (part (c .before))) longestRecord
-  long-is = joined-long (state (c .before)) (seven (c .before)) (part (c .before))
+  long-is : length seen ≡ min (heldIn (state stood) + length (part stood)) longestRecord
+  long-is = joined-long (state stood) (seven stood) (part stood)
 
   within : c .walk .result .end ≤ length seen
-  within = omega (arith, end-is, end-within seen)
+  within = omega (arith, end-is, end-within first seen)
 
-  later : 0 < c .walk .result .end → behindIn (state (c .before)) < c .walk .result .end
+  later : 0 < c .walk .result .end → behindIn (state stood) < c .walk .result .end
   later l =
-      let s = start (c .before) in
+      let s = start stood in
       let front = frontIn (s .args .state) in
       let past =
-      starts-later front (take (longestRecord - heldIn (s .args .state)) (part (c .before))) (omega (arith, long-is)) (s .pre .0 .front .no-record) (λ e. omega (arith, e, end-is))
+      starts-later first front (take (longestRecord - heldIn (s .args .state)) (part stood)) (omega (arith, long-is)) (s .pre .0 .front .no-record) (λ e. omega (arith, e, end-is))
       in
-      omega (arith, past, held-long (s .args .state) (seven (c .before)), end-is, within, long-is)
+      omega (arith, past, held-long (s .args .state) (seven stood), end-is, within, long-is)
+
+slice-aggregate-mission-on : tie.Need-slice-aggregate-mission-on
+slice-aggregate-mission-on c = search needs
+
+mission-on-requires : tie.Need-mission-on-requires
+mission-on-requires c κs = omega (arith, front-long (stood (c .before .before)))
 
 sub-after-records : tie.Need-sub-after-records
-sub-after-records c = omega (arith, later (c .before) (c .if1 .taken))
+sub-after-records c = let k = c .before .before in omega (arith, later (k .before) (k .if1 .taken))
 
 sub-after-records-2 : tie.Need-sub-after-records-2
-sub-after-records-2 c = omega (arith, later (c .before) (c .if1 .taken), within (c .before), long-is (c .before))
+sub-after-records-2 c = let k = c .before .before in omega (arith, later (k .before) (k .if1 .taken), within (k .before), long-is (k .before))
 
 part-after-records-start : tie.Need-part-after-records-start
-part-after-records-start c = omega (arith, later (c .before) (c .if1 .taken), within (c .before), long-is (c .before))
+part-after-records-start c = let k = c .before .before in omega (arith, later (k .before) (k .if1 .taken), within (k .before), long-is (k .before))
 
 part-after-records-end : tie.Need-part-after-records-end
 part-after-records-end c = search needs
 
 after-records-requires : tie.Need-after-records-requires
 after-records-requires c κs =
-    let w = c .before .before in
-    let s = start (w .before) in
-    let stands = s .pre .0 in (
-      omega (arith, stands .records .all, stands .records .long, stands .inside, stands .short),
+    let w = c .before .before .before .before in
+    let stands = start (stood w) .pre .0 in
+    let st = state (stood w) in (
+      omega (arith, curves-within (st .curves) (st .place) (stands .records), stands .inside, stands .short),
       omega (arith, stands .inside, stands .short),
-      omega (arith, counts-is w, curves-few (seen w)),
+      omega (arith, walked-few (w .walk .ensures)),
       omega (arith, within w, long-is w),
     )
 
 returns : tie.Need-returns
 unfolding onward if_then_else_
 returns c =
-    let w = c .before .before .before in
-    let s = start (w .before) in
-    let some : survey (seen w) .end ≡ 0 → ⊥ = λ e. omega (arith, e, end-is w, c .before .before .if1 .taken) in
-    rw (ne-eqb (survey (seen w) .end) 0 some)
+    let m = c .before .before in
+    let w = m .before .before .before in
+    let st = state (stood w) in
+    let bytes = part (stood w) in
+    let count = st .count + length bytes in
+    let some : surveyOf (first w) (seen w) .end ≡ 0 → ⊥ = λ e. omega (arith, e, end-is w, m .before .before .if1 .taken) in
+    let own : m .mission-on .result ≡ missionOn st (seen w) =
+    m .mission-on .ensures ∙ ap (missionOn st) (front-is (stood w)) ∙ ap (λ (n : ℕ). if firstIn st then n else st .mission) (mission-padded (seen w) (56 - length (seen w)))
+    in
+    rw (ne-eqb (surveyOf (first w) (seen w) .end) 0 some)
     (c .after-records .ensures
-    ∙ ap (afterRecords (s .args .state) (s .args .state .count + length (part (w .before))) (w .walk .result .curves) (w .walk .result .end)) (rest-is (part (w .before)) (w .walk .result .end - behindIn (s .args .state)))
-    ∙ (λ i. afterRecords (s .args .state) (s .args .state .count + length (part (w .before))) (counts-is w i) (end-is w i) (drop (end-is w i - behindIn (s .args .state)) (part (w .before)))))
+    ∙ ap (afterRecords st count (m .mission-on .result) (w .walk .result .curves) (w .walk .result .end)) (rest-is bytes (w .walk .result .end - behindIn st))
+    ∙ (λ i. afterRecords st count (own i) (counts-is w i) (end-is w i) (drop (end-is w i - behindIn st) bytes)))
 
 erased-on-requires : tie.Need-erased-on-requires
 erased-on-requires c κs = search needs
@@ -166,16 +185,17 @@ returns-2 : tie.Need-returns-2
 unfolding onward grown if_then_else_
 returns-2 c =
     let w = c .before .before .before .before in
-    let s = start (w .before) in
-    let none : survey (seen w) .end ≡ 0 = omega (arith, end-is w, c .before .before .before .if1 .left) in
-    rw (eq-eqb (survey (seen w) .end) 0 none)
+    let st = state (stood w) in
+    let none : surveyOf (first w) (seen w) .end ≡ 0 = omega (arith, end-is w, c .before .before .before .if1 .left) in
+    rw (eq-eqb (surveyOf (first w) (seen w) .end) 0 none)
     (λ i. record {
       ended = 0;
-      count = s .args .state .count + length (part (w .before));
-      curves = s .args .state .curves;
-      place = s .args .state .place;
+      count = st .count + length (part (stood w));
+      mission = st .mission;
+      curves = st .curves;
+      place = st .place;
       erased = c .before .before .erased-on .ensures i;
-      words = (c .words-of .ensures ∙ ap packed (front-is (w .before)) ∙ packed-zeros (seen w) (56 - length (seen w))) i;
+      words = (c .words-of .ensures ∙ ap packed (front-is (stood w)) ∙ packed-zeros (seen w) (56 - length (seen w))) i;
     })
 
 pub onward-spec : {M : Type 1} → statement M
@@ -192,6 +212,8 @@ onward-spec =
     array-share-prefix-front
     slice-aggregate-walk
     walk-requires
+    slice-aggregate-mission-on
+    mission-on-requires
     sub-after-records
     sub-after-records-2
     part-after-records-start

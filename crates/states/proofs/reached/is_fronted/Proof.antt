@@ -9,10 +9,10 @@ use lib.Seq.{take-all, length-take-le}
 use Rattle.whole.proofs.Flags.{told-map}
 use Rattle.record.specs.Kinds.{longestRecord}
 use Rattle.record.specs.Records.{erasedBytes}
-use Rattle.sheet.specs.Survey.{survey}
+use Rattle.sheet.specs.Survey.{surveyOf}
 use Rattle.states.specs.declared.State.{State}
 use Rattle.states.specs.Words.{packed}
-use Rattle.states.specs.Steps.{heldIn, frontIn}
+use Rattle.states.specs.Steps.{firstIn, heldIn, frontIn}
 use Rattle.states.proofs.Packed.{packed-long, unpacked-long}
 use Rattle.states.proofs.Fronts.{held-long}
 use Rattle.states.proofs.reached.is_fronted.Statement.{statement}
@@ -84,8 +84,12 @@ walk-requires : tie.Need-walk-requires
 walk-requires c κs = search needs
 
 -- where the records of the front end
-end-is : (c : tie.After-walk) → c .walk .result .end ≡ survey (frontIn (state (c .before .before .before .before .before .before))) .end
-end-is c = c .walk .ensures .end-is ∙ ap (λ (x : List ℕ). survey x .end) (front-is (c .before .before .before .before .before .before))
+module _ (c : tie.After-walk) where
+  abbrev walked : tie.After-bytes
+  walked = c .before .before .before .before .before .before .before
+
+  end-is : c .walk .result .end ≡ surveyOf (firstIn (state walked)) (frontIn (state walked)) .end
+  end-is = c .walk .ensures .end-is ∙ ap (λ (x : List ℕ). surveyOf (firstIn (state walked)) x .end) (front-is walked)
 
 returns-3 : tie.Need-returns-3
 returns-3 c = λ f. c .if3 .taken (end-is (c .before .before) ∙ f .no-record)
@@ -94,9 +98,9 @@ front-words-requires : tie.Need-front-words-requires
 front-words-requires c κs = search needs
 
 -- the words of the front
-own-is : (c : tie.After-front-words) → let w = c .before .before .before in c .front-words .result ≡ packed (frontIn (state (w .before .before .before .before .before .before)))
+own-is : (c : tie.After-front-words) → c .front-words .result ≡ packed (frontIn (state (walked (c .before .before .before))))
 own-is c =
-    let front = c .before .before .before .before .before .before .before .before .before in
+    let front = walked (c .before .before .before) in
     c .front-words .ensures
     ∙ ap (λ (x : List ℕ). packed (take longestRecord x)) (front-is front)
     ∙ ap packed (take-all longestRecord (frontIn (state front)) (front-short front))
@@ -104,19 +108,19 @@ own-is c =
 are-same-requires : tie.Need-are-same-requires
 are-same-requires c κs =
     let own = c .before .before in
-    let front = own .before .before .before .before .before .before .before .before .before in
+    let front = walked (own .before .before .before) in
     (seven front, ap length (own-is own) ∙ packed-long (frontIn (state front)))
 
 returns-4 : tie.Need-returns-4
 returns-4 c =
     let own = c .before .before .before in
     let w = own .before .before .before in
-    let e = w .before .before in
+    let e = w .before .before .before in
     told-map
     (λ z. record {
       words-are = z ∙ own-is own;
       erased-inside = omega (arith, e .before .before .if1 .left);
-      erased-is = sym (e .before .least2 .ensures) ∙ w .before .if2 .left ∙ erased-is e;
+      erased-is = sym (e .before .least2 .ensures) ∙ w .before .before .if2 .left ∙ erased-is e;
       no-record = sym (end-is w) ∙ own .before .if3 .left;
     })
     (λ f. f .words-are ∙ sym (own-is own))

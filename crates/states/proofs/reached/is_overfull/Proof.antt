@@ -14,21 +14,25 @@ returns : tie.Need-returns
 returns c = λ h. c .if1 .taken (ap (λ (x : State). x .count) h)
 
 returns-2 : tie.Need-returns-2
-returns-2 c = λ h. c .if2 .taken (ap (λ (x : State). x .curves) h)
+returns-2 c = λ h. c .if2 .taken (ap (λ (x : State). x .mission) h)
 
 returns-3 : tie.Need-returns-3
-returns-3 c = λ h. c .if3 .taken (ap (λ (x : State). x .place) h)
+returns-3 c = λ h. c .if3 .taken (ap (λ (x : State). x .curves) h)
 
 returns-4 : tie.Need-returns-4
-returns-4 c = λ h. c .if4 .taken (ap (λ (x : State). x .erased) h)
+returns-4 c = λ h. c .if4 .taken (ap (λ (x : State). x .place) h)
+
+returns-5 : tie.Need-returns-5
+returns-5 c = λ h. c .if5 .taken (ap (λ (x : State). x .erased) h)
 
 are-same-requires : tie.Need-are-same-requires
 are-same-requires c κs = search needs
 
-returns-5 : tie.Need-returns-5
+returns-6 : tie.Need-returns-6
 unfolding wordsIn
-returns-5 c =
-    let fourth = c .before .before .before .before in
+returns-6 c =
+    let fifth = c .before .before .before .before in
+    let fourth = fifth .before .before in
     let third = fourth .before .before in
     let second = third .before .before in
     let first = second .before .before in
@@ -37,9 +41,10 @@ returns-5 c =
     (λ e i. record {
       ended = st .ended;
       count = first .if1 .left i;
-      curves = second .if2 .left i;
-      place = third .if3 .left i;
-      erased = fourth .if4 .left i;
+      mission = second .if2 .left i;
+      curves = third .if3 .left i;
+      place = fourth .if4 .left i;
+      erased = fifth .if5 .left i;
       words = e i;
     })
     (ap (λ (x : State). x .words))
@@ -48,4 +53,4 @@ returns-5 c =
 
 pub is-overfull-spec : {M : Type 1} → statement M
 is-overfull-spec =
-    tie.close (tie.spec add-if1 returns returns-2 returns-3 returns-4 are-same-requires returns-5)
+    tie.close (tie.spec add-if1 returns returns-2 returns-3 returns-4 returns-5 are-same-requires returns-6)

@@ -1,86 +1,59 @@
--- `reached::records_end` meets its contract: what is left of the place beyond cubics is a number of sixteens, one for each quintic.
+-- `reached::records_end` meets its contract: by whether there is a record, which is the header.
 use borrow.Author.Needs.{needs}
-use mathlib.Core.Path.{_≡_, ap, _∙_}
-use Prim.Native.Nat.{ℕ, _-_, _*_, _/_, _%_, _≤_}
-use native.Mathlib.Nat.{mul-mod-left}
+use mathlib.Core.Path.{_≡_, ap, subst}
+use mathlib.Core.Logic.{inl, inr}
+use Prim.Native.Nat.{ℕ, _-_, _≤_, _<_}
 use native.Mathlib.Omega.{arith}
-use lib.Dec.{leb}
-use Rattle.whole.proofs.Flags.{told-map, order-tells}
+use lib.Dec.{eqb}
+use Rattle.whole.specs.Number.{Tells}
+use Rattle.whole.proofs.Flags.{told-map, equal-tells}
 use Rattle.record.specs.declared.kinds.Row.{Row}
-use Rattle.states.specs.Steps.{RecordsEnd}
+use Rattle.states.specs.Steps.{CurvesEnd, RecordsEnd}
 use Rattle.states.proofs.reached.records_end.Statement.{statement}
 use Rattle.states.proofs.reached.records_end.Tie as tie
+
+-- what is left of the place for the curves
+at-first : (curves place : ℕ) → place ≡ 0 → RecordsEnd curves place → curves ≡ 0
+at-first curves place z (inl h) = h .1
+at-first curves place z (inr h) = absurd (omega (arith, h .0))
+
+within-header : (curves place : ℕ) → (place ≡ 0 → ⊥) → place < 6 → RecordsEnd curves place → ⊥
+within-header curves place n l (inl h) = n (h .0)
+within-header curves place n l (inr h) = omega (arith, h .0)
+
+behind-header : (curves place : ℕ) → 6 ≤ place → RecordsEnd curves place → CurvesEnd curves (place - 6)
+behind-header curves place l (inl h) = absurd (omega (arith, h .0))
+behind-header curves place l (inr h) = h .1
+
+returns : tie.Need-returns
+returns c =
+    let s = c .before .args in
+    told-map (λ z. inl (c .if1 .taken, z)) (at-first (s .curves) (s .place) (c .if1 .taken)) (eqb (s .curves) 0) (equal-tells (s .curves) 0)
 
 row-of-requires : tie.Need-row-of-requires
 row-of-requires c κs = search needs
 
-row-of-requires-2 : tie.Need-row-of-requires-2
-row-of-requires-2 c κs = search needs
-
--- the lengths of the table
-module _ (c : tie.After-struct-known) where
-  cubic-is : c .before .before .row-of .result .size ≡ 36
-  cubic-is = ap (λ (r : Row). r .size) (c .before .before .row-of .ensures)
-
-  quintic-is : c .before .row-of2 .result .size ≡ 52
-  quintic-is = ap (λ (r : Row). r .size) (c .before .row-of2 .ensures)
-
-sub-more : tie.Need-sub-more
-sub-more c = omega (arith, cubic-is c, quintic-is c)
-
-div-if1 : tie.Need-div-if1
-div-if1 c = omega (arith, cubic-is c)
-
-returns : tie.Need-returns
-returns c = λ h. let t = rw (cubic-is (c .before)) at (c .if1 .taken) in omega (arith, t, h .all, h .long)
-
-mul-left : tie.Need-mul-left
-mul-left c = let t = rw (cubic-is (c .before)) at (c .if1 .left) in rw (cubic-is (c .before)) (omega (arith, t, c .before .before .before .before .fits))
-
-sub-left : tie.Need-sub-left
-sub-left c = let t = rw (cubic-is (c .before)) at (c .if1 .left) in rw (cubic-is (c .before)) (omega (arith, t))
-
-rem-if2 : tie.Need-rem-if2
-rem-if2 c = omega (arith, cubic-is (c .before), quintic-is (c .before))
-
--- each quintic leaves sixteen over
-sixteens : (curves place : ℕ) → RecordsEnd curves place → (place - curves * 36) % 16 ≡ 0
-sixteens curves place h =
-    let left : place - curves * 36 ≡ h .quintics * 16 = omega (arith, h .all, h .long) in
-    ap (λ (n : ℕ). n % 16) left ∙ mul-mod-left (h .quintics) 16
+-- the length of the table
+header-is : (c : tie.After-row-of) → c .row-of .result .size ≡ 6
+header-is c = ap (λ (r : Row). r .size) (c .row-of .ensures)
 
 returns-2 : tie.Need-returns-2
-returns-2 c = let s = c .before .before in λ h. (rw (cubic-is s, quintic-is s) at (c .if2 .taken)) (sixteens _ _ h)
+returns-2 c =
+    let k = c .before in
+    let s = k .before .before .args in
+    within-header (s .curves) (s .place) (k .before .if1 .left) (omega (arith, c .if2 .taken, header-is k))
 
-div-result : tie.Need-div-result
-div-result c = omega (arith, cubic-is (c .before .before), quintic-is (c .before .before))
-
-by-quintics : (curves place : ℕ) → curves * 36 ≤ place → (place - curves * 36) % 16 ≡ 0 → (place - curves * 36) / 16 ≤ curves → RecordsEnd curves place
-by-quintics curves place l e m =
-    record { cubics = curves - (place - curves * 36) / 16; quintics = (place - curves * 36) / 16; all = omega arith; long = omega arith }
+curves-end-requires : tie.Need-curves-end-requires
+curves-end-requires c κs = search needs
 
 returns-3 : tie.Need-returns-3
 returns-3 c =
-    let s = c .before .before in
-    let a = s .before .before .before .args in
-    let left = (a .place - a .curves * 36) / 16 in
-    let t = rw (cubic-is s) at (c .before .if1 .left) in
-    let e = rw (cubic-is s, quintic-is s) at (c .if2 .left) in
-    rw (cubic-is s, quintic-is s)
-    (told-map (by-quintics (a .curves) (a .place) (omega (arith, t)) e) (λ h. omega (arith, h .all, h .long)) (leb left (a .curves)) (order-tells left (a .curves)))
+    let k = c .before .before in
+    let s = k .before .before .args in
+    let l : 6 ≤ s .place = omega (arith, c .before .if2 .left, header-is k) in
+    told-map (λ e. inr (l, e)) (behind-header (s .curves) (s .place) l) (c .curves-end .result)
+    (subst (λ (n : ℕ). Tells (CurvesEnd (s .curves) (s .place - n)) (c .curves-end .result)) (header-is k) (c .curves-end .ensures))
 
 pub records-end-spec : {M : Type 1} → statement M
 records-end-spec =
-    tie.close
-    (tie.spec
-    row-of-requires
-    row-of-requires-2
-    sub-more
-    div-if1
-    returns
-    mul-left
-    sub-left
-    rem-if2
-    returns-2
-    div-result
-    returns-3)
+    tie.close (tie.spec returns row-of-requires returns-2 curves-end-requires returns-3)

@@ -1,17 +1,17 @@
 -- `counting::count_curves` meets its contract. Invariant: the first k curves are counted, and the next record stands at `next`.
 use borrow.Author.Needs.{needs}
-use mathlib.Core.Path.{_≡_, subst}
+use mathlib.Core.Path.{_≡_, sym, subst}
 use mathlib.Core.List.{List}
 use Prim.Native.Nat.{ℕ, suc, _+_, _-_, _≤_, _<_}
 use native.Mathlib.Omega.{arith}
 use lib.ListN.{drop}
 use Rattle.curve.specs.declared.Curve.{Curve}
+use Rattle.record.specs.declared.kinds.Row.{Row}
 use Rattle.record.specs.declared.points.Held.{Held}
 use Rattle.record.specs.Promise.{IsHeld}
-use Rattle.sheet.specs.declared.Reading.the-variants as reading
-use Rattle.sheet.specs.Promise.{Reads}
+use Rattle.sheet.specs.Promise.{HasCurve}
 use Rattle.sheet.proofs.Passed.{rest-is}
-use Rattle.sheet.proofs.Ahead.{read-in-range, Ahead, ahead-fits, ahead-near, ahead-held, passed}
+use Rattle.sheet.proofs.Ahead.{curve-in-range, Ahead, ahead-fits, ahead-near, ahead-held, passed}
 use Rattle.totals.specs.Steps.{CountsCurves}
 use Rattle.totals.proofs.Walked.{curves-none, curves-next, counted-sound, first-ahead}
 use Rattle.totals.proofs.counting.count_curves.Statement.{statement}
@@ -23,13 +23,23 @@ Inv-loop sheet count t₀ next₀ k₀ t next k = (k ≤ count) × CountsCurves 
 abbrev μ-loop : tie.MeasureT-loop
 μ-loop sheet count t₀ next₀ k₀ t next k = count - k
 
+row-of-requires : tie.Need-row-of-requires Inv-loop μ-loop
+row-of-requires c κs = search needs
+
 loop-holds : tie.Need-loop-holds Inv-loop μ-loop
-loop-holds c = let s = c .before in (omega arith, curves-none _ _, first-ahead (s .args .sheet .now) (s .args .count) (s .pre))
+loop-holds c =
+    let s = c .before .before in
+    let sheet = s .args .sheet .now in
+    let count = s .args .count in (
+      omega arith,
+      curves-none _ _,
+      subst (λ (r : Row). Ahead sheet count 0 (r .size)) (sym (c .row-of .ensures)) (first-ahead sheet count (s .pre)),
+    )
 
 -- the record ahead
 module _ (c : tie.In-loop Inv-loop μ-loop) where
   abbrev start : tie.Start Inv-loop μ-loop
-  start = c .before .before .before
+  start = c .before .before .before .before
 
   abbrev sheet : List ℕ
   sheet = start .args .sheet .now
@@ -89,7 +99,7 @@ module _ (c : tie.After-known-told Inv-loop μ-loop) where
   abbrev size : ℕ
   size = c .before .curve .given .0 .1 .0
 
-  read : Reads (sheet inside) (suc (k inside)) (reading.Points curve) × (size ≡ ahead inside (left inside) .0) × Ahead (sheet inside) (count inside) (k inside + 1) (next inside + size)
+  read : HasCurve (sheet inside) (suc (k inside)) curve × (size ≡ ahead inside (left inside) .0) × Ahead (sheet inside) (count inside) (k inside + 1) (next inside + size)
   read =
       passed (sheet inside) (count inside) (k inside) (next inside) (left inside) (ahead inside) (counted-sound (sheet inside) (count inside) (start inside .pre) (omega (arith, left inside))) curve size
       (held-there (c .before .before .before) (c .before .curve .given .1))
@@ -103,7 +113,7 @@ add-k : tie.Need-add-k Inv-loop μ-loop
 add-k c = omega (arith, left (inside c))
 
 judge-requires : tie.Need-judge-requires Inv-loop μ-loop
-judge-requires c κs = read-in-range (sheet (inside c)) (suc (k (inside c))) (curve c) (read c .0)
+judge-requires c κs = curve-in-range (sheet (inside c)) (suc (k (inside c))) (curve c) (read c .0)
 
 with-curve-requires : tie.Need-with-curve-requires Inv-loop μ-loop
 with-curve-requires c κs = search needs
@@ -119,7 +129,7 @@ loop-again c =
 
 returns-2 : tie.Need-returns-2 Inv-loop μ-loop
 returns-2 c =
-    let s = c .before .before .before .args in
+    let s = c .before .before .before .before .args in
     let l = c .before .loop in
     subst (λ (n : ℕ). CountsCurves (s .start) (s .sheet .now) n (l .t)) (omega arith) (l .inv .1)
 
@@ -129,6 +139,7 @@ count-curves-spec =
     (tie.spec
     Inv-loop
     μ-loop
+    row-of-requires
     loop-holds
     sub-held-curve
     part-held-curve-start

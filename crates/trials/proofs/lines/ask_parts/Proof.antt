@@ -7,7 +7,7 @@ use Rattle.trials.proofs.lines.ask_parts.Statement.{statement}
 use Rattle.trials.proofs.lines.ask_parts.Tie as tie
 
 abbrev Inv-loop : tie.InvT-loop
-Inv-loop named text from line area₀ state₀ at₀ area state at = (length area ≡ length area₀) × (length state ≡ 12)
+Inv-loop named text from line area₀ state₀ at₀ area state at = (length area ≡ length area₀) × (length state ≡ 13)
 
 abbrev μ-loop : tie.MeasureT-loop
 μ-loop named text from line area₀ state₀ at₀ area state at = length text + 1 - at

@@ -1,0 +1,4 @@
+-- The definitions that the contracts cite, and those of a text by its lines and words.
+pub mod Places
+pub mod Numbers
+pub mod Texts
