@@ -1,4 +1,6 @@
 // Lent number areas: what one holds after a call, and the clearing of one.
+#![tactic(auto)]
+
 ghost use Rattle.area.specs.Area.{Cleared};
 
 // Every number of the area is 0 afterwards.

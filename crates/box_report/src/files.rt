@@ -3,7 +3,7 @@ ghost use Rattle.std.specs.Prelude.{length};
 ghost use Rattle.box_report.specs.Boxes.{GotWithin};
 
 // How many bytes were read, or that the file cannot be read.
-#[derive(Drop)]
+#[derive(Clone, Copy)]
 pub enum Got {
     Bytes(usize),
     None,

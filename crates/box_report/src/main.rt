@@ -1,5 +1,7 @@
 // Reports a box of sheets: each argument is a file that holds one. Writes a line for each sheet as it is read, and then the totals.
 // A file that cannot be read is named with the reason on the error output; it is no sheet.
+#![tactic(auto)]
+
 mod files;
 mod lines;
 
@@ -13,7 +15,7 @@ use record::LONGEST;
 use totals::{Totals, add_sheet, no_sheets};
 
 // The totals, and whether a sheet was refused because the box is full.
-#[derive(Drop)]
+#[derive(Clone, Copy)]
 struct Step {
     totals: Totals,
     full: bool,

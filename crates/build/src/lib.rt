@@ -1,4 +1,6 @@
 // Cubics and quintics from a first point and a pre-image: their legs are the square of a polynomial that is given by its Bernstein coefficients.
+#![tactic(auto)]
+
 ghost use Rattle.std.specs.Prelude.{◌≡◌, ◌∷◌, [], ◌^◌};
 ghost use Rattle.whole.specs.Number.{Tells};
 ghost use Rattle.pair.specs.Pairs.{times, PartsWithin};
@@ -15,7 +17,7 @@ use refusal::Refusal;
 // How far a part of w may be from 0.
 const SOURCE_REACH: u32 = 200;
 
-#[derive(Drop)]
+#[derive(Clone, Copy)]
 pub enum BuildAnswer {
     Built(Curve),
     Refused(Refusal),

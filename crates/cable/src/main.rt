@@ -1,5 +1,7 @@
 // Checks a sheet that arrives on the standard input, by whatever parts arrive, and writes the first line of its report to the standard output.
 // An input that cannot be read is named with the reason on the error output; it is no sheet.
+#![tactic(auto)]
+
 mod lines;
 
 ghost use Rattle.std.specs.Prelude.{◌≤◌, length};
@@ -12,7 +14,7 @@ use record::LONGEST;
 use states::State;
 
 // Why no more is read: the input has ended, cannot be read, or has more bytes than a sheet.
-#[derive(Drop)]
+#[derive(Clone, Copy)]
 enum Stop {
     End,
     Failed,
@@ -20,7 +22,7 @@ enum Stop {
 }
 
 // What is left of the bytes that arrived.
-#[derive(Drop)]
+#[derive(Clone, Copy)]
 struct Arrived {
     state: State,
     stop: Stop,

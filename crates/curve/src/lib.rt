@@ -1,4 +1,6 @@
 // Planar cubics and quintics with whole points: their range, their legs and the leg polynomial D.
+#![tactic(auto)]
+
 mod drawing;
 mod ranges;
 
@@ -9,7 +11,7 @@ pub use ranges::in_range;
 // How far a coordinate may be from 0.
 pub const COORDINATE_REACH: u32 = 20000;
 
-#[derive(Drop)]
+#[derive(Clone, Copy)]
 pub struct Cubic {
     pub p0: Pair,
     pub p1: Pair,
@@ -17,7 +19,7 @@ pub struct Cubic {
     pub p3: Pair,
 }
 
-#[derive(Drop)]
+#[derive(Clone, Copy)]
 pub struct Quintic {
     pub p0: Pair,
     pub p1: Pair,
@@ -27,21 +29,21 @@ pub struct Quintic {
     pub p5: Pair,
 }
 
-#[derive(Drop)]
+#[derive(Clone, Copy)]
 pub enum Curve {
     Cubic(Cubic),
     Quintic(Quintic),
 }
 
 // The legs of a cubic or a quintic.
-#[derive(Drop)]
+#[derive(Clone, Copy)]
 pub enum Legs {
     Cubic(Pair, Pair, Pair),
     Quintic(Pair, Pair, Pair, Pair, Pair),
 }
 
 // e0 + e1 t + .. + e4 t^4
-#[derive(Drop)]
+#[derive(Clone, Copy)]
 pub struct LegPowers {
     pub e0: Pair,
     pub e1: Pair,

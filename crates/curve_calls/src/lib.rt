@@ -1,5 +1,7 @@
 // The calls on curves for C, over numbers: `yard` exports them, and include/yard.h has a comment for each.
 // The numbers of a curve are x then y of each point.
+#![tactic(auto)]
+
 mod numbers;
 
 ghost use Rattle.pair.specs.Pairs.{pair};

@@ -1,5 +1,7 @@
 // Quotients, greatest common divisors and square roots of pairs.
 // What is divided by has parts of at most 2^20 in size, and what is divided, of 2^40, so that the parts of a conj(b) fit.
+#![tactic(auto)]
+
 ghost use Rattle.std.specs.Prelude.{◌≡◌, ◌∷◌, [], ◌≢◌, ◌*◌, ◌^◌, pos, nat_abs, ◌≤ℤ◌, ◌<ℤ◌};
 ghost use Rattle.whole.specs.Number.{Within};
 ghost use Rattle.whole.specs.Coefficients.{Divides, Greatest};
@@ -19,14 +21,14 @@ const HALF_SCALE: i64 = 2199023255552;
 const NEAR_NORM: i64 = 68719476736;
 
 // A quotient that has to be a pair.
-#[derive(Drop)]
+#[derive(Clone, Copy)]
 pub enum PairQuotient {
     Whole(Pair),
     None,
 }
 
 // A root that has to be a pair.
-#[derive(Drop)]
+#[derive(Clone, Copy)]
 pub enum PairRoot {
     Root(Pair),
     None,

@@ -1,4 +1,6 @@
 // How answers are handed over to C: as a count, or as minus a refusal's number and 32 times its place; the numbers in a lent area.
+#![tactic(auto)]
+
 ghost use Rattle.std.specs.Prelude.{◌≡◌, ◌++◌, ◌+◌, ◌≤◌, pos, length, drop, get_or};
 ghost use Rattle.refusal.specs.Answers.{refused as refused_with, given, refuse};
 ghost use Rattle.pair.specs.Pairs.{pair};
@@ -13,14 +15,14 @@ use record::{cubic_numbers, quintic_numbers};
 use refusal::{Fault, Refusal, nowhere, number};
 
 // What the numbers of a call give: 8 are a cubic's, 12 a quintic's.
-#[derive(Drop)]
+#[derive(Clone, Copy)]
 pub enum Given {
     Curve(Curve),
     WrongCount,
 }
 
 // What the numbers of a call give to build from: 4 are a cubic's w0 and w1, 6 a quintic's w0, w1 and w2.
-#[derive(Drop)]
+#[derive(Clone, Copy)]
 pub enum Source {
     Cubic(Pair, Pair),
     Quintic(Pair, Pair, Pair),

@@ -1,5 +1,7 @@
 // The curves between two ends: all quintics with whole legs from one leg to another over a travel whose leg polynomial is a square, as a list in a
 // lent area. A curve is the triple of pairs w0, V, w2: V is twice the middle coefficient, which may be a half.
+#![tactic(auto)]
+
 ghost use Rattle.std.specs.Prelude.{◌≡◌, [], ◌∷◌, ◌++◌, ◌+◌, ◌≤◌, length, drop};
 ghost use Rattle.whole.specs.Number.{Tells, FirstPositive};
 ghost use Rattle.area.specs.Area.{Cleared};
@@ -17,7 +19,7 @@ use refusal::Refusal;
 const TRAVEL_REACH: u32 = 40000;
 
 // How many triples the area holds, or why there is no list.
-#[derive(Drop)]
+#[derive(Clone, Copy)]
 pub enum JoinAnswer {
     Listed(u8),
     Refused(Refusal),

@@ -8,7 +8,7 @@ use hand::{Given, curve_in};
 use reading::{Number, Sought, find, number_in, same};
 
 // The lines that there are, by their first words.
-#[derive(Drop)]
+#[derive(Clone, Copy)]
 pub enum Form {
     Mission,
     Cubic,
@@ -18,7 +18,7 @@ pub enum Form {
 }
 
 // What stands wrong in a line.
-#[derive(Drop)]
+#[derive(Clone, Copy)]
 pub enum Why {
     Word,
     NoNumber,
@@ -32,7 +32,7 @@ pub enum Why {
 }
 
 // What a line says.
-#[derive(Drop)]
+#[derive(Clone, Copy)]
 pub enum Line {
     Nothing,
     Mission(u16),
@@ -42,21 +42,21 @@ pub enum Line {
 }
 
 // What a line says, and the place of what says it: the first word, or what is wrong.
-#[derive(Drop)]
+#[derive(Clone, Copy)]
 pub struct Said {
     pub line: Line,
     pub place: usize,
 }
 
 // How the numbers of a line were taken: all that there is room for, or what is wrong and where.
-#[derive(Drop)]
+#[derive(Clone, Copy)]
 enum Taken {
     All,
     Wrong(Why, usize),
 }
 
 // A number that counts something, or what is wrong and where.
-#[derive(Drop)]
+#[derive(Clone, Copy)]
 enum Amount {
     Of(usize),
     Wrong(Why, usize),

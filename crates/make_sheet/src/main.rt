@@ -1,5 +1,7 @@
 // Makes a parameter sheet from its text: reads the text from the standard input and writes the sheet to the standard output, or, where a line
 // is refused or is no line of a sheet's text, one message to the error output and no sheet.
+#![tactic(auto)]
+
 mod lines;
 mod making;
 mod messages;
@@ -18,7 +20,7 @@ use refusal::Refusal;
 use sheet::erase;
 
 // What was made: a sheet of so many bytes, or nothing, for a line was refused or is wrong.
-#[derive(Drop)]
+#[derive(Clone, Copy)]
 pub enum Made {
     Sheet(usize),
     Refused(usize, Refusal),

@@ -9,7 +9,7 @@ use refusal::Refusal;
 use sheet::{Change, append, start, walk};
 
 // How far the sheet is: nothing was said, it is started, or it is known how many bytes it has.
-#[derive(Drop)]
+#[derive(Clone, Copy)]
 pub enum Stage {
     Blank,
     Started,
@@ -17,7 +17,7 @@ pub enum Stage {
 }
 
 // What a line did: the sheet is so far now, or the library refused, or the line may not stand here.
-#[derive(Drop)]
+#[derive(Clone, Copy)]
 pub enum Step {
     Next(Stage),
     Refused(Refusal),

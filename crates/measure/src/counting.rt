@@ -11,7 +11,7 @@ use pair::cross;
 use verdict::Quadratic;
 
 // How often the turning polynomial changes its sign, and whether it is zero throughout.
-#[derive(Drop)]
+#[derive(Clone, Copy)]
 pub struct Inflections {
     pub turning: Turning,
     pub count: u8,

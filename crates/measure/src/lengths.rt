@@ -10,7 +10,7 @@ use root::Quartic;
 use verdict::Square;
 
 // sqrt(c) a / b
-#[derive(Drop)]
+#[derive(Clone, Copy)]
 pub struct Length {
     pub c: i64,
     pub a: i64,

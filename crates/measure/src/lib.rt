@@ -1,4 +1,6 @@
 // The length and the inflections of a curve with a pre-image.
+#![tactic(auto)]
+
 pub mod counting;
 pub mod lengths;
 
@@ -12,20 +14,20 @@ use refusal::Refusal;
 use verdict::{PreimageAnswer, preimage_of};
 
 // t0 + t1 t + t2 t^2
-#[derive(Drop)]
+#[derive(Clone, Copy)]
 pub struct Turning {
     pub t0: i64,
     pub t1: i64,
     pub t2: i64,
 }
 
-#[derive(Drop)]
+#[derive(Clone, Copy)]
 pub enum LengthAnswer {
     Found(Length),
     Refused(Refusal),
 }
 
-#[derive(Drop)]
+#[derive(Clone, Copy)]
 pub enum InflectionAnswer {
     Found(Inflections),
     Refused(Refusal),

@@ -1,4 +1,6 @@
 // The calls on whole numbers for C: `yard` exports them, and include/yard.h has a comment for each.
+#![tactic(auto)]
+
 ghost use Rattle.number_calls.specs.Promise.{RootCall};
 
 use hand::hand;

@@ -1,4 +1,6 @@
 // The control points of a curve's offset.
+#![tactic(auto)]
+
 mod denominators;
 mod points;
 mod polynomials;
@@ -19,7 +21,7 @@ use root::Quartic;
 use terms::rows;
 
 // x0 + x1 t + .. + x5 t^5
-#[derive(Drop)]
+#[derive(Clone, Copy)]
 pub struct Coordinate {
     pub x0: i64,
     pub x1: i64,
@@ -30,7 +32,7 @@ pub struct Coordinate {
 }
 
 // e0 + e1 t + .. + e9 t^9
-#[derive(Drop)]
+#[derive(Clone, Copy)]
 pub struct Nonic {
     pub e0: i64,
     pub e1: i64,
@@ -45,7 +47,7 @@ pub struct Nonic {
 }
 
 // W, X and Y, each coefficient times its weight.
-#[derive(Drop)]
+#[derive(Clone, Copy)]
 pub struct Rows {
     pub w: Nonic,
     pub x: Nonic,
@@ -53,14 +55,14 @@ pub struct Rows {
 }
 
 // How many numbers the area holds, or why there is no offset.
-#[derive(Drop)]
+#[derive(Clone, Copy)]
 pub enum OffsetAnswer {
     Written(u8),
     Refused(Refusal),
 }
 
 // W, by which X and Y are to be divided, or why there is no offset.
-#[derive(Drop)]
+#[derive(Clone, Copy)]
 pub enum Denominator {
     Found(Quartic),
     Refused(Refusal),

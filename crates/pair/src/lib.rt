@@ -1,12 +1,14 @@
 // Pairs: complex numbers with whole parts. Their sums and products, and tests of them.
 // What is multiplied has parts of at most 2^30 in size, so that the parts of a product, and a norm, are at most 2^61. What is only added,
 // taken away or turned may be as large as a product.
+#![tactic(auto)]
+
 ghost use Rattle.std.specs.Prelude.{◌≡◌, ◌∷◌, [], ◌^◌};
 ghost use Rattle.whole.specs.Number.{Tells, Within};
 ghost use Rattle.poly.specs.Polynomials.{Same};
 ghost use Rattle.pair.specs.Pairs.{pairs, PartsWithin, plus, minus, negative, times, multiple, norm, cross, imaginary};
 
-#[derive(Drop)]
+#[derive(Clone, Copy)]
 pub struct Pair {
     pub re: i64,
     pub im: i64,

@@ -4,6 +4,8 @@
 //   end     there are no more parts
 //   ask     what the check of all the bytes answers, once they have ended
 // No call asks anything of its arguments. A state that no bytes leave is refused with RANGE, a part behind the end with ENDED.
+#![tactic(auto)]
+
 ghost use Rattle.std.specs.Prelude.{◌≡◌};
 ghost use Rattle.parts.specs.Promise.{stays, Starts, Feeds, EndsSheet, Asks};
 
@@ -12,14 +14,14 @@ use sheet::{Change, Checked};
 use states::{State, answer, go_on, is_reached};
 
 // What `feed` answers, and the state afterwards.
-#[derive(Drop)]
+#[derive(Clone, Copy)]
 pub struct Fed {
     pub state: State,
     pub answer: Change,
 }
 
 // What `ask` answers.
-#[derive(Drop)]
+#[derive(Clone, Copy)]
 pub enum Told {
     Sheet(Checked),
     NotEnded,

@@ -1,4 +1,6 @@
 // The calls for C on a sheet that arrives by parts, over a state in a lent area: `yard` exports them, and include/yard.h has a comment for each.
+#![tactic(auto)]
+
 ghost use Rattle.std.specs.Prelude.{◌≡◌, ◌≤◌, length};
 ghost use Rattle.parts_calls.specs.Numbers.{state_numbers, unsigned as unsigned_of, signed as signed_of, state_in};
 ghost use Rattle.parts_calls.specs.Steps.{Countable};

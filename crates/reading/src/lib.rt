@@ -1,4 +1,6 @@
 // Reading a text that a person wrote: where something stands in it, its words, and the whole numbers among them.
+#![tactic(auto)]
+
 mod numbers;
 mod places;
 

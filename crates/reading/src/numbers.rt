@@ -3,7 +3,7 @@ ghost use Rattle.whole.specs.Number.{Tells};
 ghost use Rattle.reading.specs.Numbers.{AllDigits, Sized, IsSize, IsSigned, WithSign, IsNumber};
 
 // A number without a sign: 64 bits hold it, or it is too large for that, or it is none.
-#[derive(Drop)]
+#[derive(Clone, Copy)]
 pub enum Size {
     Of(u64),
     TooLarge,
@@ -11,7 +11,7 @@ pub enum Size {
 }
 
 // The same with a sign.
-#[derive(Drop)]
+#[derive(Clone, Copy)]
 pub enum Number {
     Of(i64),
     TooLarge,

@@ -4,7 +4,7 @@ ghost use Rattle.whole.specs.Number.{Tells};
 ghost use Rattle.reading.specs.Places.{Gap, IsSought, FirstPlace};
 
 // What is looked for in a text.
-#[derive(Drop)]
+#[derive(Clone, Copy)]
 pub enum Sought {
     Byte(u8),
     Gap,

@@ -8,7 +8,7 @@ use crate::numbers::half_at;
 // No kind's record has more bytes than this.
 pub const LONGEST_RECORD: usize = 52;
 
-#[derive(Drop)]
+#[derive(Clone, Copy)]
 pub enum Kind {
     Header,
     Cubic,
@@ -16,7 +16,7 @@ pub enum Kind {
 }
 
 // What the two bytes after a record's length name.
-#[derive(Drop)]
+#[derive(Clone, Copy)]
 pub enum Named {
     Kind(Kind),
     Unknown,
@@ -24,7 +24,7 @@ pub enum Named {
 
 // A kind's name, the length of its records, whether a sheet begins with one and has no other, whether what they hold are coordinates, and
 // whether they are curves.
-#[derive(Drop)]
+#[derive(Clone, Copy)]
 pub struct Row {
     pub name: [u8; 2],
     pub size: usize,

@@ -1,4 +1,6 @@
 // A record of the parameter sheet: numbers in bytes, the table of kinds, one step of reading a sheet, and the bytes of a curve's record.
+#![tactic(auto)]
+
 mod kinds;
 mod numbers;
 mod points;

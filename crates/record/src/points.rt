@@ -16,7 +16,7 @@ use curve::{Cubic, Curve, Quintic};
 use pair::Pair;
 
 // A curve and how many bytes its record has, or that the bytes begin with no curve's record.
-#[derive(Drop)]
+#[derive(Clone, Copy)]
 pub enum Held {
     Curve { curve: Curve, size: usize },
     None,

@@ -19,7 +19,7 @@ pub const ERASED: u8 = 255;
 const ERASED_LENGTH: u64 = 65535;
 
 // What stands at a record's place: the end of the sheet, a fault some bytes on, or a record of a kind.
-#[derive(Drop)]
+#[derive(Clone, Copy)]
 pub enum Step {
     Ends,
     Fault(Refusal, usize),

@@ -15,7 +15,7 @@ use curve::Curve;
 use refusal::Refusal;
 
 // That a record was written, or why not: no byte is changed then.
-#[derive(Drop)]
+#[derive(Clone, Copy)]
 pub enum Put {
     Done,
     Refused(Refusal),

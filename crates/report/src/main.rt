@@ -1,4 +1,6 @@
 // Reads a parameter sheet from the standard input and writes its report to the standard output.
+#![tactic(auto)]
+
 ghost use Rattle.std.specs.Prelude.{◌≤◌, ◌<◌, length, take};
 ghost use Rattle.record.specs.Records.{longest};
 ghost use Rattle.report_text.specs.Promise.{Report};

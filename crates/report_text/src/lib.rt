@@ -1,4 +1,6 @@
 // The report of a parameter sheet, as text in a lent byte area.
+#![tactic(auto)]
+
 mod lines;
 
 ghost use Rattle.std.specs.Prelude.{◌≡◌};

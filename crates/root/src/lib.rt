@@ -1,5 +1,7 @@
 // The square root of a polynomial over whole numbers, from the highest power down. Each coefficient is an exact quotient, so that the square
 // agrees from the fourth power up, and a comparison of the powers below decides.
+#![tactic(auto)]
+
 ghost use Rattle.std.specs.Prelude.{◌≡◌, ◌∷◌, ◌≢◌, ◌+◌, ◌≤◌, pos, ◌*ℤ◌};
 ghost use Rattle.whole.specs.Number.{wholes, Tells};
 ghost use Rattle.whole.specs.Coefficients.{at};
@@ -16,7 +18,7 @@ use whole::{Exact, ends_as_a_square, quotient, size, square_root};
 const ROOT_SIZE: u64 = 20000000;
 
 // m0 + m1 t + .. + m8 t^8
-#[derive(Drop)]
+#[derive(Clone, Copy)]
 pub struct Octic {
     pub m0: i64,
     pub m1: i64,
@@ -30,7 +32,7 @@ pub struct Octic {
 }
 
 // q0 + q1 t + .. + q4 t^4
-#[derive(Drop)]
+#[derive(Clone, Copy)]
 pub struct Quartic {
     pub q0: i64,
     pub q1: i64,
@@ -39,14 +41,14 @@ pub struct Quartic {
     pub q4: i64,
 }
 
-#[derive(Drop)]
+#[derive(Clone, Copy)]
 pub enum WholeRoot {
     Root(Quartic),
     None,
 }
 
 // A coefficient of a root: a small whole number, or why it is none.
-#[derive(Drop)]
+#[derive(Clone, Copy)]
 pub enum Coefficient {
     Whole(i64),
     Fraction,
@@ -54,7 +56,7 @@ pub enum Coefficient {
 }
 
 // The only polynomial that can be a root, or that a coefficient ended the search.
-#[derive(Drop)]
+#[derive(Clone, Copy)]
 enum Search {
     Upper(Quartic),
     None,

@@ -8,6 +8,8 @@
 //   append   writes one more curve
 //   walk     what the others share, for the crates above: how the records end and where
 // No call asks anything of its arguments. A call that refuses leaves the sheet as it was.
+#![tactic(auto)]
+
 mod walks;
 
 ghost use Rattle.std.specs.Prelude.{◌≡◌, length, replicate};
@@ -23,35 +25,35 @@ use refusal::{Fault, Refusal, nowhere};
 pub use walks::{Ending, Walked, walk};
 
 // The mission that a sheet is for: one that is all FF has none.
-#[derive(Drop)]
+#[derive(Clone, Copy)]
 pub enum Mission {
     None,
     Number(u16),
 }
 
 // What `check` answers: the mission, and how many curves.
-#[derive(Drop)]
+#[derive(Clone, Copy)]
 pub enum Checked {
     Sheet { mission: Mission, curves: usize },
     Refused(Fault),
 }
 
 // What `read` answers.
-#[derive(Drop)]
+#[derive(Clone, Copy)]
 pub enum Reading {
     Points(Curve),
     Refused(Fault),
 }
 
 // What `locate` answers: the place of a record's first byte and how many bytes it has.
-#[derive(Drop)]
+#[derive(Clone, Copy)]
 pub enum Location {
     At { place: usize, length: usize },
     Refused(Fault),
 }
 
 // What `start`, `erase` and `append` answer.
-#[derive(Drop)]
+#[derive(Clone, Copy)]
 pub enum Change {
     Done,
     Refused(Fault),

@@ -7,7 +7,7 @@ use record::{LONGEST, Step, row_of, step_of};
 use refusal::{Fault, Refusal, nowhere};
 
 // How the records end: at the sheet's end or an erased tail, or at a fault.
-#[derive(Drop)]
+#[derive(Clone, Copy)]
 pub enum Ending {
     Sound,
     Faulty(Fault),
@@ -15,7 +15,7 @@ pub enum Ending {
 
 // What a walk finds: how many curves there are, where the records end, from where to where the curve that was asked for stands (nowhere:
 // both are 0), and how the records end.
-#[derive(Drop)]
+#[derive(Clone, Copy)]
 pub struct Walked {
     pub curves: usize,
     pub end: usize,

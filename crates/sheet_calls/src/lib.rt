@@ -1,4 +1,6 @@
 // The calls on sheets for C, over numbers: `yard` exports them, and include/yard.h has a comment for each.
+#![tactic(auto)]
+
 ghost use Rattle.std.specs.Prelude.{◌≡◌};
 ghost use Rattle.hand.specs.Promise.{coded as code_of};
 ghost use Rattle.sheet_calls.specs.Promise.{count_of_change, CheckCall, ReadCall, FindCall, StartForCall, EraseCall, AppendCall, ReportCall};

@@ -2,6 +2,8 @@
 //   is_reached   whether a state is that of some bytes
 //   go_on        the state with a part more
 //   answer       what the check of all the bytes answers
+#![tactic(auto)]
+
 mod front;
 mod going;
 mod reached;
@@ -12,7 +14,7 @@ pub use reached::is_reached;
 // 1 once the bytes have ended, else 0; how many they are, and 4,097 for more than a sheet has; the mission's number, and 0 as long as there
 // is no header; how many curves there are, and where the records end; how many bytes FF stand there; and the first 52 bytes from there on,
 // eight to a word, with zeros behind them.
-#[derive(Drop)]
+#[derive(Clone, Copy)]
 pub struct State {
     pub ended: usize,
     pub count: usize,

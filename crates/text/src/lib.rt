@@ -1,4 +1,6 @@
 // Text in a lent byte area, written piece by piece, and zeros behind it.
+#![tactic(auto)]
+
 ghost use Rattle.std.specs.Prelude.{◌≡◌, ◌++◌, length, replicate};
 ghost use Rattle.text.specs.Texts.{decimal, sign, signed};
 ghost use Rattle.text.specs.Steps.{Writes, Ends};
@@ -7,14 +9,14 @@ use refusal::Refusal;
 use whole::size;
 
 // Where the next byte goes, or that the text did not fit.
-#[derive(Drop)]
+#[derive(Clone, Copy)]
 pub enum Place {
     At(usize),
     Full,
 }
 
 // How many bytes were written, or that the area is too short.
-#[derive(Drop)]
+#[derive(Clone, Copy)]
 pub enum TextAnswer {
     Written(usize),
     Refused(Refusal),

@@ -3,6 +3,8 @@
 //   no_sheets   the totals of an empty box
 //   add_sheet   the totals with one sheet more, and what the sheet's check says
 // A box is a value, and `add_sheet` takes any: who asks keeps the totals as they were.
+#![tactic(auto)]
+
 mod counting;
 mod judging;
 
@@ -17,7 +19,7 @@ use refusal::{Fault, Refusal, number};
 use sheet::Checked;
 
 // What is counted of a curve: its verdict and, of one with a pre-image, its length in whole hundredths.
-#[derive(Drop)]
+#[derive(Clone, Copy)]
 pub enum Counted {
     Still,
     No,
@@ -26,7 +28,7 @@ pub enum Counted {
 }
 
 // The longest curve, with its length in whole hundredths, the number of its sheet and its number there; or that no curve was measured.
-#[derive(Drop)]
+#[derive(Clone, Copy)]
 pub enum Longest {
     Curve {
         hundredths: u64,
@@ -37,7 +39,7 @@ pub enum Longest {
 }
 
 // `verdicts` counts still, no, ph and pre, in this order, and `refused` the sheets with the refusals 1 to 6.
-#[derive(Drop)]
+#[derive(Clone, Copy)]
 pub struct Totals {
     pub sheets: u64,
     pub verdicts: [u64; 4],
@@ -47,7 +49,7 @@ pub struct Totals {
 }
 
 // The totals, and what was said of the sheet: its mission and how many curves it has, or its fault, or that the box is full.
-#[derive(Drop)]
+#[derive(Clone, Copy)]
 pub struct Added {
     pub totals: Totals,
     pub answer: Checked,

@@ -1,6 +1,8 @@
 // The bench report of a box, as text in a lent byte area.
 //   write_line     the line of a sheet, by its number and its name
 //   write_totals   the lines of the totals
+#![tactic(auto)]
+
 mod pieces;
 
 ghost use Rattle.text.specs.declared.Place.TheVariants.{At};

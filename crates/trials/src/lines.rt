@@ -50,7 +50,7 @@ fn ask_root(text: &[u8], from: usize, line: usize) -> bool
 }
 
 // What the numbers of a call are: fit for it, so many; not those that it takes; or one is wrong, which is said then.
-#[derive(Drop)]
+#[derive(Clone, Copy)]
 enum Taken {
     Fit(usize),
     Unfit,

@@ -1,5 +1,7 @@
 // Asks the calls of the library: reads a line for each from the standard input and writes what it answers.
 // The file `stdin` has calls, and `stdout` the answers of the second program.
+#![tactic(auto)]
+
 mod answers;
 mod calls;
 mod curves;

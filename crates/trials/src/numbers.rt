@@ -5,7 +5,7 @@ use crate::places::row_of;
 use reading::{Number, Sought, find, number_in};
 
 // What a word is worth: a number, nothing (it only joins numbers), or it is no word of a call.
-#[derive(Drop)]
+#[derive(Clone, Copy)]
 enum Worth {
     Number(i64),
     Nothing,
@@ -13,7 +13,7 @@ enum Worth {
 }
 
 // So many numbers, and where the first word is that belongs to no call: the text's end, if there is none.
-#[derive(Drop)]
+#[derive(Clone, Copy)]
 pub(crate) struct Found {
     pub count: usize,
     pub wrong: usize,

@@ -4,7 +4,7 @@ ghost use Rattle.std.specs.Prelude.{◌≤◌, length};
 use reading::{Sought, find, same};
 
 // Where a line of the table stands, and its number. Where there is none it is 0, and stands for the whole table.
-#[derive(Drop)]
+#[derive(Clone, Copy)]
 pub(crate) struct Row {
     pub number: usize,
     pub from: usize,

@@ -1,4 +1,6 @@
 // The verdict on a curve: whether it is Pythagorean, and by which numbers.
+#![tactic(auto)]
+
 mod ends;
 mod preimages;
 mod roots;
@@ -27,14 +29,14 @@ pub use roots::{imaginaries, reals};
 use rules::{Generation, generator_of};
 
 // The highest power of a polynomial that has a coefficient other than 0.
-#[derive(Drop)]
+#[derive(Clone, Copy)]
 pub enum Highest {
     Power(u64),
     Zero,
 }
 
 // b0 + b1 t + b2 t^2
-#[derive(Drop)]
+#[derive(Clone, Copy)]
 pub struct Quadratic {
     pub b0: Pair,
     pub b1: Pair,
@@ -42,21 +44,21 @@ pub struct Quadratic {
 }
 
 // N = c q^2
-#[derive(Drop)]
+#[derive(Clone, Copy)]
 pub struct Square {
     pub c: i64,
     pub q: Quartic,
 }
 
 // D = kappa w^2, and with it N = c q^2
-#[derive(Drop)]
+#[derive(Clone, Copy)]
 pub struct Preimage {
     pub kappa: Pair,
     pub w: Quadratic,
     pub square: Square,
 }
 
-#[derive(Drop)]
+#[derive(Clone, Copy)]
 pub enum Verdict {
     Still,
     No,
@@ -65,7 +67,7 @@ pub enum Verdict {
     Refused(Refusal),
 }
 
-#[derive(Drop)]
+#[derive(Clone, Copy)]
 pub enum PreimageAnswer {
     Found(Preimage),
     Refused(Refusal),

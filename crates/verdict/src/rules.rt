@@ -16,21 +16,21 @@ use pair::{Pair, difference, equal, is_zero, multiple, product, sum, within};
 const MIDDLE_SIZE: u32 = 56568;
 
 // D = k w^2
-#[derive(Drop)]
+#[derive(Clone, Copy)]
 pub struct Generator {
     pub k: Pair,
     pub w: Quadratic,
 }
 
 // A generator, or that there is none.
-#[derive(Drop)]
+#[derive(Clone, Copy)]
 pub enum Generation {
     Found(Generator),
     None,
 }
 
 // The m of the quintic rule, or that there is none.
-#[derive(Drop)]
+#[derive(Clone, Copy)]
 pub enum Middle {
     Found(Pair),
     None,

@@ -1,4 +1,6 @@
 // Whole numbers: exact and nearest quotients, square roots, sizes, and common divisors.
+#![tactic(auto)]
+
 ghost use Rattle.std.specs.Prelude.{◌≡◌, ◌∷◌, [], ◌≢◌, ◌%◌, pos, nat_abs, ◌*ℤ◌, ◌<ℤ◌};
 ghost use Rattle.whole.specs.Number.{wholes, Within, Tells, norm_size};
 ghost use Rattle.whole.specs.Coefficients.{Greatest};
@@ -6,14 +8,14 @@ ghost use Rattle.whole.specs.Promise.{Divisible, IsQuotient, Shares, Nearest, Is
 ghost use Rattle.whole.specs.Steps.{OddPart, Guess};
 
 // A quotient that has to be whole.
-#[derive(Drop)]
+#[derive(Clone, Copy)]
 pub enum Exact {
     Whole(i64),
     Fraction,
 }
 
 // The whole root of a number, and what its square leaves over.
-#[derive(Drop)]
+#[derive(Clone, Copy)]
 pub struct Root {
     pub root: u64,
     pub rest: u64,

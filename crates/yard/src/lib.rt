@@ -2,6 +2,8 @@
 // A call returns how many there are of what it answers, or, where it refuses, minus the refusal's number and 32 times its place.
 // A lent number area holds the answer from its start and zeros behind it; after a refusal it is all zero. The state of a sheet by parts is an
 // area that stays as it is where a call refuses.
+#![tactic(auto)]
+
 ghost use Rattle.pair.specs.Pairs.{pair};
 ghost use Rattle.number_calls.specs.Promise.{RootCall};
 ghost use Rattle.curve_calls.specs.Promise.{RecogniseCall, LengthCall, InflectionCall, OffsetCall, BuildCall, JoinCall};
