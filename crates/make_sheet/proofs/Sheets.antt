@@ -20,7 +20,7 @@ use Rattle.curve.specs.declared.Curve.{Curve}
 use Rattle.curve.specs.Curves.{points_of}
 use Rattle.record.specs.Records.{longest, erased, step_of}
 use Rattle.record.specs.declared.steps.Step.{Step}
-use Rattle.record.specs.declared.steps.Step.TheVariants as record-step
+use Rattle.record.specs.declared.steps.Step.TheVariants as record_step
 use Rattle.record.proofs.Shown.{ends_erased, erased_ends}
 use Rattle.record.proofs.Headers.{header-mission}
 use Rattle.sheet.specs.declared.Mission.{Mission}

@@ -19,7 +19,7 @@ use Rattle.refusal.proofs.Answers.{by_test, by_order}
 use Rattle.record.specs.Numbers.{size_of}
 use Rattle.record.specs.declared.kinds.Kind.{Kind}
 use Rattle.record.specs.declared.kinds.Named.{Named}
-use Rattle.record.specs.declared.kinds.Named.TheVariants as named-as
+use Rattle.record.specs.declared.kinds.Named.TheVariants as named_as
 use Rattle.record.specs.Kinds.{row_of, longest_record, kinds, words}
 use Rattle.record.specs.Records.{erased, erased_length, erased_bytes, erased_end, erased_step, kind_in, may_stand, sized_step, kind_step, step_of}
 use Rattle.record.specs.declared.steps.Step.{Step}

@@ -24,7 +24,7 @@ use Rattle.refusal.specs.Answers.{if◌then◌else◌}
 use Rattle.record.specs.Numbers.{size_of, signed_of, coordinates}
 use Rattle.record.specs.declared.kinds.Kind.{Kind}
 use Rattle.record.specs.declared.kinds.Named.{Named}
-use Rattle.record.specs.declared.kinds.Named.TheVariants as named-as
+use Rattle.record.specs.declared.kinds.Named.TheVariants as named_as
 use Rattle.record.specs.Kinds.{row_of, kinds, words}
 use Rattle.record.specs.Records.{erased, erased_length, erased_bytes, erased_end, erased_step, named, kind_in, may_stand, all_within, sized_step, kind_step, step_of}
 use Rattle.record.specs.declared.steps.Step.{Step}

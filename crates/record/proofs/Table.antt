@@ -19,7 +19,7 @@ use Rattle.refusal.proofs.Answers.{by_test, both_true}
 use Rattle.record.specs.declared.kinds.Kind.{Kind}
 use Rattle.record.specs.declared.kinds.Kind.TheVariants.{Header, Cubic, Quintic}
 use Rattle.record.specs.declared.kinds.Named.{Named}
-use Rattle.record.specs.declared.kinds.Named.TheVariants as named-as
+use Rattle.record.specs.declared.kinds.Named.TheVariants as named_as
 use Rattle.record.specs.declared.kinds.Row.{Row}
 use Rattle.record.specs.Numbers.{word_bytes, written, AllBytes}
 use Rattle.record.specs.Kinds.{row_of, longest_record, kinds, words, formed}

@@ -9,7 +9,7 @@ use Rattle.refusal.specs.Answers.{Answer, refused, given, refuse, if◌then◌el
 use Rattle.curve.specs.declared.Curve.{Curve}
 use Rattle.curve.specs.Curves.{points_of}
 use Rattle.record.specs.declared.kinds.Kind.{Kind}
-use Rattle.record.specs.declared.kinds.Named.TheVariants as named-as
+use Rattle.record.specs.declared.kinds.Named.TheVariants as named_as
 use Rattle.record.specs.declared.points.Held.{Held}
 use Rattle.record.specs.declared.points.Held.TheVariants as held
 use Rattle.record.specs.declared.writes.Put.{Put}

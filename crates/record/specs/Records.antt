@@ -15,7 +15,7 @@ use Rattle.curve.specs.Sizes.{coordinate_reach}
 use Rattle.record.specs.Numbers.{size_of, coordinates}
 use Rattle.record.specs.declared.kinds.Kind.{Kind}
 use Rattle.record.specs.declared.kinds.Named.{Named}
-use Rattle.record.specs.declared.kinds.Named.TheVariants as named-as
+use Rattle.record.specs.declared.kinds.Named.TheVariants as named_as
 use Rattle.record.specs.Kinds.{row_of, kinds, words}
 use Rattle.record.specs.declared.steps.Step.{Step}
 use Rattle.record.specs.declared.steps.Step.TheVariants.{Ends, Fault, Record}

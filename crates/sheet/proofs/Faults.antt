@@ -18,7 +18,7 @@ use Rattle.refusal.proofs.Answers.{by_test, by_order, no_answer, given_once, ref
 use Rattle.record.specs.declared.kinds.Kind.{Kind}
 use Rattle.record.specs.declared.kinds.Kind.TheVariants.{Cubic}
 use Rattle.record.specs.declared.kinds.Named.{Named}
-use Rattle.record.specs.declared.kinds.Named.TheVariants as named-as
+use Rattle.record.specs.declared.kinds.Named.TheVariants as named_as
 use Rattle.record.specs.Kinds.{row_of, kinds}
 use Rattle.record.specs.Records.{longest, erased_end, erased_step, kind_in, sized_step, kind_step, step_of}
 use Rattle.record.specs.declared.steps.Step.{Step}

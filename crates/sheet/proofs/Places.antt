@@ -17,7 +17,7 @@ use Rattle.refusal.proofs.Answers.{no_answer, given_once}
 use Rattle.curve.specs.declared.Curve.{Curve}
 use Rattle.record.specs.declared.kinds.Kind.{Kind}
 use Rattle.record.specs.declared.kinds.Kind.TheVariants.{Header, Cubic, Quintic}
-use Rattle.record.specs.declared.kinds.Named.TheVariants as named-as
+use Rattle.record.specs.declared.kinds.Named.TheVariants as named_as
 use Rattle.record.specs.Kinds.{row_of, kinds, points_in}
 use Rattle.record.specs.Records.{kind_in, may_stand}
 use Rattle.record.specs.declared.points.Held.TheVariants as held

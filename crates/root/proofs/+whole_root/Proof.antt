@@ -17,12 +17,12 @@ use Rattle.root.specs.declared.Quartic.{Quartic}
 use Rattle.root.specs.Search.{SmallRoot}
 use Rattle.root.specs.Promise.{octic, quartic, Sized, Small, Positive, IsWholeRoot}
 use Rattle.root.proofs.Shifting.{raised_each, raised-top, root-constant, lowered-root, no_lowered-root}
-use Rattle.root.proofs.whole_root.Reads as whole-root
-use Rattle.root.proofs.whole_root.Kinds as whole-root-kinds
+use Rattle.root.proofs.whole_root.Reads as whole_root
+use Rattle.root.proofs.whole_root.Kinds as whole_root_kinds
 use Rattle.root.proofs.+whole_root.Lts-whole_root as lts
-use Rattle.root.proofs.quartic_root.Reads as quartic-root-reads
-use Rattle.root.proofs.lowered.Reads as lowered-reads
-use Rattle.root.proofs.raised.Reads as raised-reads
+use Rattle.root.proofs.quartic_root.Reads as quartic_root_reads
+use Rattle.root.proofs.lowered.Reads as lowered_reads
+use Rattle.root.proofs.raised.Reads as raised_reads
 use Rattle.root.proofs.+whole_root.{statement}
 use Rattle.root.proofs.+whole_root.Tie.{close}
 

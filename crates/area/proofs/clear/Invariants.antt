@@ -1,0 +1,15 @@
+-- What the loops of `clear` keep.
+use mathlib.Core.Path.{◌≡◌, refl, ap, ◌∙◌}
+use mathlib.Core.List.{List, ◌++◌}
+use Prim.Native.Nat.{◌≤◌, ◌-◌}
+use native.Mathlib.Omega.{arith}
+use lib.IntN.{ℤ, pos}
+use lib.ListN.{length, drop, replicate, set, length-set}
+use Rattle.whole.proofs.Fill.{fill_more, fill-all}
+use Rattle.area.proofs.clear.Given as goal
+
+abbrev pub invariant-loop-i : goal.invariant-loop-i
+invariant-loop-i l = (l.i ≤ length l.initial.area) × (l.area ≡ replicate l.i (pos 0) ++ drop l.i l.initial.area) × (length l.area ≡ length l.initial.area)
+
+abbrev pub decreases-loop-i : goal.decreases-loop-i
+decreases-loop-i l = length l.initial.area - l.i

@@ -1,0 +1,39 @@
+-- `build` meets its contract.
+use borrow.Author.Rules.{rules}
+use mathlib.Core.Path.{refl, subst}
+use mathlib.Core.Logic.{inl, inr}
+use mir.ValLaws.{to_z-of_z}
+use Rattle.build.specs.Promise.{cubic, quintic}
+use Rattle.hand.proofs.Areas.{hands_same}
+use Rattle.hand.specs.Promise.{IsSource}
+use Rattle.hand.proofs.Handing.{handed}
+use Rattle.curve_calls.proofs.build.Goals as goal
+
+pub returns-in-Cubic : goal.returns-in-Cubic
+returns-in-Cubic c =
+    let k = c.before.before.before.before.before in
+    let s = k.ranges in
+    let v = k.w0-1.given in
+    let r = c.build_cubic in
+    inr (
+      cubic v.0.0 v.0.1.0,
+      subst (IsSource _) v.1 k.source_in.ensures,
+      handed r.result (simp (to_z-of_z, s.x, s.y) at r.ensures) refl c.hand_built.type-inv c.hand_built.ensures,
+    )
+
+pub returns-in-Quintic : goal.returns-in-Quintic
+returns-in-Quintic c =
+    let k = c.before.before.before.before.before in
+    let s = k.ranges in
+    let v = k.w0-in-Quintic-1.given in
+    let r = c.build_quintic in
+    inr (
+      quintic v.0.0 v.0.1.0 v.0.1.1.0,
+      subst (IsSource _) v.1 k.source_in.ensures,
+      handed r.result (simp (to_z-of_z, s.x, s.y) at r.ensures) refl c.hand_built-in-Quintic.type-inv c.hand_built-in-Quintic.ensures,
+    )
+
+pub returns-in-WrongCount : goal.returns-in-WrongCount
+returns-in-WrongCount c =
+    let k = c.before.before.before in
+    inl (subst (IsSource _) k.in-WrongCount.is k.source_in.ensures, hands_same refl c.refused.type-inv c.refused.ensures)

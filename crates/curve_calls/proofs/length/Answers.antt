@@ -1,0 +1,19 @@
+-- `length` meets its contract.
+use borrow.Author.Rules.{rules}
+use mathlib.Core.Path.{refl}
+use Rattle.hand.proofs.Areas.{hands_same}
+use Rattle.hand.proofs.Handing.{wrong-count, right_count, handed}
+use Rattle.curve_calls.proofs.length.Goals as goal
+
+pub returns-in_default : goal.returns-in_default
+returns-in_default c =
+    let k = c.before.before.before in
+    wrong-count k.curve_in.ensures k.in_default.is
+    (hands_same refl c.refused.type-inv c.refused.ensures)
+
+pub returns : goal.returns
+returns c =
+    let k = c.before.before.before.before.before in
+    let r = c.length in
+    right_count k.curve_in.ensures k.in-Curve.curve k.in-Curve.is
+    (handed r.result r.ensures refl c.hand_length.type-inv c.hand_length.ensures)

@@ -1,0 +1,29 @@
+-- `hand` meets its contract.
+use borrow.Author.Rules.{rules}
+use mathlib.Core.Path.{refl}
+use native.Mathlib.Omega.{arith}
+use lib.ListN.{length, drop}
+use mir.Syntax.{w64}
+use mir.ValLaws.{to_z_pos}
+use Rattle.area.proofs.Areas.{fills_rest}
+use Rattle.hand.proofs.Areas.{hands_same, hands_short, hands_given}
+use Rattle.hand.proofs.hand.Goals as goal
+
+pub returns-then-area-n : goal.returns-then-area-n
+returns-then-area-n c =
+    let refused = c.before in
+    let tested = refused.before.before in
+    hands_short tested.args.values.now tested.if-area-n.true (hands_same refl refused.refused.type-inv refused.refused.ensures)
+
+pub shape_of-area : goal.shape_of-area
+shape_of-area c = search rules
+
+pub returns : goal.returns
+returns c =
+    let k = c.before.before.before.before in
+    let s = k.args in
+    let vs = s.values.now in
+    let rest = drop (length vs) s.area.now in
+    hands_given vs (omega (arith, k.if-area-n.false)) (shape_of-area c)
+    (fills_rest (length vs) vs rest k.put.new.0 c.clear.new.0 refl k.put.ensures c.clear.ensures)
+    (to_z_pos w64 (length vs) (omega (arith, k.before.before.before.well-formed)))

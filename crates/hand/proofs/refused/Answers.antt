@@ -1,0 +1,9 @@
+-- `refused` meets its contract.
+use borrow.Author.Rules.{rules}
+use mathlib.Core.Path.{ap}
+use Rattle.refusal.specs.Answers as answer
+use Rattle.hand.proofs.Areas.{hands_same}
+use Rattle.hand.proofs.refused.Goals as goal
+
+pub returns : goal.returns
+returns c = hands_same (ap answer.refused c.nowhere.ensures) c.faulted.type-inv c.faulted.ensures

@@ -1,0 +1,48 @@
+-- `lines::curve` meets its contract: the curve is made of the numbers that were taken.
+use mathlib.Core.Path.{sym, ap, ◌∙◌, subst}
+use lib.ListN.{length}
+use Rattle.curve.specs.Curves.{points_of}
+use Rattle.record.specs.Kinds.{numbers_of}
+use Rattle.hand.specs.Promise.{IsGiven}
+use Rattle.reading.specs.Texts.{Numbers}
+use Rattle.make_sheet.specs.Sayings.{NumbersIn, NoCurve}
+use Rattle.make_sheet.proofs.Sentences.{wrong-curve, no_room}
+use borrow.Author.Rules.{rules}
+use Rattle.make_sheet.proofs.lines.curve.Goals as goal
+
+pub returns-in-Wrong : goal.returns-in-Wrong
+returns-in-Wrong c =
+    let known = c.before.before in
+    let call = known.before.before.before in
+    let s = call.args in
+    let (within, (vs, words, never)) = subst (NumbersIn s.text.now s.from call.take_numbers.new.1.1.1.0) known.in-Wrong.is call.take_numbers.ensures in
+    wrong-curve known.in-Wrong.why known.in-Wrong.place s.text.now within c.wrong.ensures s.from (length s.n.now)
+    (vs, words, λ c e h. never (numbers_of (points_of c)) (e ∙ sym call.take_numbers.auto.1.1.1.0) h)
+
+pub returns-in-Curve : goal.returns-in-Curve
+returns-in-Curve c =
+    let known = c.before in
+    let made = known.before.before in
+    let told = made.before.before in
+    let call = told.before.before.before in
+    let start = call.before.before.before in
+    let s = start.args in
+    let xs = call.take_numbers.new.1.1.1.0 in
+    let h = subst (NumbersIn s.text.now s.from xs) told.in_default.is call.take_numbers.ensures in
+    let is = subst (IsGiven xs) known.in-Curve.is made.curve_in.ensures in
+    record {
+      place_within = start.requires.0;
+      curve = (h.0, h.1, subst (Numbers h.0) (sym is) h.2, ap length is ∙ call.take_numbers.auto.1.1.1.0);
+    }
+
+pub returns-in-WrongCount : goal.returns-in-WrongCount
+returns-in-WrongCount c =
+    let told = c.before in
+    let made = told.before.before in
+    let call = made.before.before.before.before.before in
+    let start = call.before.before.before in
+    let s = start.args in
+    let xs = call.take_numbers.new.1.1.1.0 in
+    let none = no_room s.text.now s.from xs (subst (IsGiven xs) told.in-WrongCount.is made.curve_in.ensures) in
+    wrong-curve _ s.first s.text.now start.requires.0 c.wrong-in-WrongCount.ensures s.from (length s.n.now)
+    (subst (NoCurve s.text.now s.from) call.take_numbers.auto.1.1.1.0 none)

@@ -1,0 +1,10 @@
+-- `lines::quintic` meets its contract.
+use Rattle.make_sheet.proofs.Sentences.{quintic-behind}
+use borrow.Author.Rules.{rules}
+use Rattle.make_sheet.proofs.lines.quintic.Goals as goal
+
+pub returns : goal.returns
+returns c =
+    let call = c.before in
+    let s = call.args in
+    quintic-behind s.text.now s.from call.curve.result call.curve.ensures

@@ -1,0 +1,33 @@
+-- `length` meets its contract: the length by the pre-image, or its refusal.
+use mathlib.Core.Path.{subst}
+use borrow.Author.Rules.{rules}
+use Rattle.curve.specs.declared.Curve.{Curve}
+use Rattle.curve.specs.Curves.{points_of}
+use Rattle.curve.proofs.LegPolynomial.{points_of_length}
+use Rattle.verdict.specs.declared.Preimage.{Preimage}
+use Rattle.verdict.specs.declared.PreimageAnswer.TheVariants.{Found}
+use Rattle.verdict.specs.Promise.{Preimaged}
+use Rattle.verdict.proofs.FoundSizes.{root_small}
+use Rattle.measure.proofs.length.Goals as goal
+
+-- there is a pre-image
+module _ (c : goal.In-Found) where
+  abbrev curve : Curve
+  curve = c.args.curve
+
+  abbrev p : Preimage
+  p = c.in-Found.p
+
+  found : Preimaged (points_of curve) (Found p)
+  found = subst (Preimaged (points_of curve)) c.in-Found.is c.preimage_of.ensures
+
+pub length_by-requires : goal.length_by-requires
+length_by-requires c = root_small (points_of (curve c)) (p c) (found c) (points_of_length (curve c))
+
+pub returns-in-Found : goal.returns-in-Found
+returns-in-Found c = let f = found c.before in (f.0, record { preimage = p c.before; is_preimage = f.1; has = c.length_by.ensures })
+
+pub returns-in-Refused : goal.returns-in-Refused
+returns-in-Refused c =
+    let s = c.before in
+    subst (Preimaged (points_of s.args.curve)) s.in-Refused.is s.preimage_of.ensures

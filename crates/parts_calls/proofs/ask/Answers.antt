@@ -1,0 +1,28 @@
+-- `ask` meets its contract: by the room, and by what the library tells.
+use borrow.Author.Rules.{rules}
+use mathlib.Core.Path.{refl, ap, ◌∙◌, subst}
+use mathlib.Core.Logic.{inl, inr}
+use native.Mathlib.Omega.{arith}
+use Rattle.refusal.specs.declared.Fault.{Fault}
+use Rattle.refusal.specs.Answers.{refused}
+use Rattle.record.proofs.Signs.{settled}
+use Rattle.states.specs.declared.State.{State}
+use Rattle.parts.specs.Promise.{Asks}
+use Rattle.hand.specs.Promise.{coded as code_of}
+use Rattle.parts_calls.proofs.Counts.{countable}
+use Rattle.parts_calls.proofs.ask.Goals as goal
+
+pub returns-then-state-lt-NUMBERS : goal.returns-then-state-lt-NUMBERS
+returns-then-state-lt-NUMBERS c = inl (omega (arith, c.if-state-lt-NUMBERS.true), settled c.coded.type-inv (c.coded.ensures ∙ ap (λ (f : Fault). code_of (refused f)) c.nowhere.ensures), refl)
+
+pub told_code-requires : goal.told_code-requires
+told_code-requires c = countable _ c.ask.result c.ask.ensures
+
+pub returns : goal.returns
+returns c =
+    let asked = c.before in
+    let read = asked.before in
+    inr (
+      omega (arith, read.if-state-lt-NUMBERS.false),
+      (asked.ask.result, subst (λ (st : State). Asks st asked.ask.result) read.state_in.ensures asked.ask.ensures, settled c.told_code.type-inv c.told_code.ensures),
+    )

@@ -1,0 +1,49 @@
+-- `put_state` meets its contract: number by number.
+use borrow.Author.Rules.{rules}
+use mathlib.Core.Path.{◌≡◌, sym, ap, ◌∙◌}
+use mathlib.Core.List.{List, ◌∷◌, ◌++◌, map}
+use Prim.Native.Nat.{ℕ}
+use lib.ListN.{length, drop}
+use Rattle.record.proofs.Signs.{settled}
+use Rattle.parts_calls.specs.Numbers.{signed}
+use Rattle.parts_calls.proofs.Signs.{seven-words}
+use Rattle.parts_calls.proofs.put_state.Goals as goal
+
+seven : (c : goal.After-words-1) → length c.args.state.words ≡ 7
+seven c = search rules
+
+pub returns : goal.returns
+returns c =
+    let put = c.before in
+    let c13 = put.before.before.before in
+    let c12 = c13.before in
+    let c11 = c12.before in
+    let c10 = c11.before in
+    let c9 = c10.before in
+    let c8 = c9.before in
+    let c7 = c8.before in
+    let c6 = c7.before in
+    let c5 = c6.before in
+    let c4 = c5.before in
+    let c3 = c4.before in
+    let c2 = c3.before in
+    let c1 = c2.before in
+    let s = c1.args in
+    let words = s.state.words in
+    put.put.ensures
+    ∙ (λ i.
+    (settled c1.signed.type-inv c1.signed.ensures i)
+    ∷ (settled c2.signed-2.type-inv c2.signed-2.ensures i)
+    ∷ (settled c3.signed-3.type-inv c3.signed-3.ensures i)
+    ∷ (settled c4.signed-4.type-inv c4.signed-4.ensures i)
+    ∷ (settled c5.signed-5.type-inv c5.signed-5.ensures i)
+    ∷ (settled c6.signed-6.type-inv c6.signed-6.ensures i)
+    ∷ (settled c7.signed-7.type-inv c7.signed-7.ensures i)
+    ∷ (settled c8.signed-8.type-inv c8.signed-8.ensures i)
+    ∷ (settled c9.signed-9.type-inv c9.signed-9.ensures i)
+    ∷ (settled c10.signed-10.type-inv c10.signed-10.ensures i)
+    ∷ (settled c11.signed-11.type-inv c11.signed-11.ensures i)
+    ∷ (settled c12.signed-12.type-inv c12.signed-12.ensures i)
+    ∷ (settled c13.signed-13.type-inv c13.signed-13.ensures i)
+    ∷ drop 13 s.area.now)
+    ∙ ap (λ (ws : List ℕ). map signed (s.state.ended ∷ s.state.count ∷ s.state.mission ∷ s.state.curves ∷ s.state.place ∷ s.state.erased ∷ ws) ++ drop 13 s.area.now) (sym (seven-words words (seven c1.before)))

@@ -1,0 +1,21 @@
+-- `walks::cubic_in` meets its contract: the points are those of the record, one by one.
+use borrow.Author.Rules.{rules}
+use mathlib.Core.Path.{◌≡◌}
+use mathlib.Core.List.{[], ◌∷◌}
+use Prim.Native.Nat.{◌-◌, ◌/◌}
+use native.Mathlib.Omega.{arith}
+use lib.ListN.{length}
+use Rattle.record.specs.Numbers.{coordinates}
+use Rattle.record.specs.Kinds.{points_in}
+use Rattle.record.proofs.points.cubic_in.Goals as goal
+
+pub returns : goal.returns
+unfolding points_in coordinates
+returns c =
+    let s = c.before.before.before.before.before in
+    let words : (length s.args.bytes.now - 4) / 4 ≡ 8 = omega (arith, s.requires) in
+    let p0 = c.point_at.ensures in
+    let p1 = c.point_at-2.ensures in
+    let p2 = c.point_at-3.ensures in
+    let p3 = c.point_at-4.ensures in
+    rw words (λ i. p0 i ∷ p1 i ∷ p2 i ∷ p3 i ∷ [])

@@ -1,0 +1,91 @@
+-- `steps::headless_step` meets its contract: its tests are those of the definition, in the same order. Without its head a known kind has a wrong length.
+use borrow.Author.Rules.{rules}
+use borrow.Author.Tests.{eq-eqb, ne_eqb, lt-ltb, le-ltb}
+use mathlib.Core.Path.{sym, ◌∙◌}
+use Rattle.refusal.specs.Answers.{if◌then◌else◌}
+use Rattle.record.specs.Kinds.{kinds}
+use Rattle.record.specs.Records.{sized_step, step_of}
+use Rattle.record.proofs.Table.{named-is}
+use Rattle.record.proofs.Heads.{head_made}
+use Rattle.record.proofs.steps.headless_step.Goals as goal
+
+pub returns-then-left-eq0 : goal.returns-then-left-eq0
+unfolding step_of if◌then◌else◌
+returns-then-left-eq0 c = rw (eq-eqb _ _ c.if-left-eq0.true)
+
+pub returns-then-rest : goal.returns-then-rest
+unfolding step_of if◌then◌else◌
+returns-then-rest c = rw (ne_eqb _ _ c.if-left-eq0.false, eq-eqb _ _ c.if-left-eq1.true, eq-eqb _ _ c.if-rest.true)
+
+pub returns-then-left-eq1 : goal.returns-then-left-eq1
+unfolding step_of if◌then◌else◌
+returns-then-left-eq1 c = rw (ne_eqb _ _ c.if-left-eq0.false, eq-eqb _ _ c.if-left-eq1.true, ne_eqb _ _ c.if-rest.false)
+
+pub returns-then-half_at-eq-ERASED_LENGTH : goal.returns-then-half_at-eq-ERASED_LENGTH
+unfolding step_of if◌then◌else◌
+returns-then-half_at-eq-ERASED_LENGTH c =
+    rw (
+      ne_eqb _ _ c.if-left-eq0.false,
+      ne_eqb _ _ c.if-left-eq1.false,
+      eq-eqb _ _ (sym c.half_at.ensures.0 ∙ c.if-half_at-eq-ERASED_LENGTH.true),
+    )
+    c.erased_step.ensures
+
+pub returns-then-left-lt4 : goal.returns-then-left-lt4
+unfolding step_of if◌then◌else◌
+returns-then-left-lt4 c =
+    rw (
+      ne_eqb _ _ c.if-left-eq0.false,
+      ne_eqb _ _ c.if-left-eq1.false,
+      ne_eqb _ _ (λ e. c.if-half_at-eq-ERASED_LENGTH.false (c.half_at.ensures.0 ∙ e)),
+      lt-ltb _ 4 c.if-left-lt4.true,
+    )
+
+-- a kind that may stand there has another length
+pub returns-then-may_stand : goal.returns-then-may_stand
+unfolding step_of sized_step if◌then◌else◌
+returns-then-may_stand c =
+    let known = c.before.before.before in
+    let k = known.before.before in
+    let e = k.before in
+    let start = e.before.before.before.before.before.before in
+    let rest = start.args.rest.now in
+    let told = sym k.kind_in.ensures ∙ known.in-Kind.is in
+    let may = sym c.may_stand.ensures ∙ c.if-may_stand.true in
+    rw (
+      ne_eqb _ _ e.if-left-eq0.false,
+      ne_eqb _ _ e.if-left-eq1.false,
+      ne_eqb _ _ (λ z. e.if-half_at-eq-ERASED_LENGTH.false (e.half_at.ensures.0 ∙ z)),
+      le-ltb _ 4 e.if-left-lt4.false,
+      told,
+      may,
+      ne_eqb _ _ (λ z. start.requires _ may (head_made _ rest e.if-left-lt4.false z (named-is kinds rest _ told))),
+    )
+
+pub returns-else-may_stand : goal.returns-else-may_stand
+unfolding step_of if◌then◌else◌
+returns-else-may_stand c =
+    let known = c.before.before.before in
+    let k = known.before.before in
+    let e = k.before in
+    rw (
+      ne_eqb _ _ e.if-left-eq0.false,
+      ne_eqb _ _ e.if-left-eq1.false,
+      ne_eqb _ _ (λ z. e.if-half_at-eq-ERASED_LENGTH.false (e.half_at.ensures.0 ∙ z)),
+      le-ltb _ 4 e.if-left-lt4.false,
+      sym k.kind_in.ensures ∙ known.in-Kind.is,
+      sym c.may_stand.ensures ∙ c.if-may_stand.false,
+    )
+
+pub returns-in-Unknown : goal.returns-in-Unknown
+unfolding step_of if◌then◌else◌
+returns-in-Unknown c =
+    let k = c.before.before in
+    let e = k.before in
+    rw (
+      ne_eqb _ _ e.if-left-eq0.false,
+      ne_eqb _ _ e.if-left-eq1.false,
+      ne_eqb _ _ (λ z. e.if-half_at-eq-ERASED_LENGTH.false (e.half_at.ensures.0 ∙ z)),
+      le-ltb _ 4 e.if-left-lt4.false,
+      sym k.kind_in.ensures ∙ c.in-Unknown.is,
+    )

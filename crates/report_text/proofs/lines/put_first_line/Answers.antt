@@ -1,0 +1,11 @@
+-- `lines::put_first_line` meets its contract: the mission, how many curves there are, and the line's end.
+use borrow.Author.Rules.{rules}
+use Rattle.text.proofs.Pieces.{◌then◌}
+use Rattle.report_text.proofs.lines.put_first_line.Goals as goal
+
+pub returns : goal.returns
+returns c =
+    let end = c.before.before in
+    let first = end.before.before.before.before.before in
+    let mission = first.before.before.before.before.before in
+    mission.put_mission-sheet.ensures then first.put_labelled-line.ensures then end.put.ensures

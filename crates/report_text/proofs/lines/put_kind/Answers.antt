@@ -1,0 +1,17 @@
+-- `lines::put_kind` meets its contract: the kind's name, between blanks.
+use borrow.Author.Rules.{rules}
+use mathlib.Core.Path.{ap, ◌∙◌}
+use Rattle.record.specs.declared.kinds.Row.{Row}
+use Rattle.record.specs.Kinds.{row_of}
+use Rattle.text.proofs.Pieces.{◌then◌, writes_same}
+use Rattle.report_text.proofs.lines.put_kind.Goals as goal
+
+pub returns : goal.returns
+returns c =
+    let blank = c.before.before in
+    let name = blank.before.before.before.before.before in
+    let row_there = name.before.before.before.before in
+    let front = row_there.before.before.before in
+    let row = front.before.before.before in
+    let is = ap (λ (r : Row). r.name) (row.row_of-row.ensures ∙ ap row_of row.kind_of.ensures) in
+    front.put-name.ensures then writes_same is name.put-blank.ensures then blank.put.ensures

@@ -1,0 +1,16 @@
+-- `lines::put_mission` meets its contract: the number, or that there is none.
+use borrow.Author.Rules.{rules}
+use mathlib.Core.Path.{sym, ap}
+use Rattle.text.proofs.Pieces.{writes_same}
+use Rattle.report_text.specs.Texts.{mission_text}
+use Rattle.report_text.proofs.lines.put_mission.Goals as goal
+
+pub returns-in-None : goal.returns-in-None
+returns-in-None c =
+    let put = c.before.before in
+    writes_same (sym (ap mission_text put.in-None.is)) put.put.ensures
+
+pub returns-in-Number : goal.returns-in-Number
+returns-in-Number c =
+    let put = c.before.before in
+    writes_same (sym (ap mission_text put.in-Number.is)) put.put_labelled.ensures

@@ -1,0 +1,31 @@
+-- `put_sound` meets its contract: the first line, and a line for each curve.
+use borrow.Author.Rules.{rules}
+use mathlib.Core.Path.{refl, ap, ◌∙◌, sym}
+use Prim.Native.Nat.{ℕ}
+use Rattle.refusal.specs.Answers.{with_given}
+use Rattle.refusal.proofs.Answers.{with_twice}
+use Rattle.sheet.specs.declared.Mission.{Mission}
+use Rattle.sheet.specs.Survey.{outcome}
+use Rattle.sheet.specs.Promise.{told_of}
+use mathlib.Core.List.{◌++◌}
+use Rattle.text.proofs.Pieces.{◌then◌}
+use Rattle.report_text.specs.Texts.{first_line}
+use Rattle.report_text.proofs.put_sound.Goals as goal
+
+pub put_lines-requires : goal.put_lines-requires
+put_lines-requires c =
+    let first = c.before.before.before in
+    let start = first.before.before.before.before in
+    sym (with_twice told_of (λ (told : Mission × ℕ). told.1) (outcome start.args.sheet.now)) ∙ ap (with_given (λ (told : Mission × ℕ). told.1)) start.requires
+
+pub returns : goal.returns
+returns c =
+    let lines = c.before.before in
+    let first = lines.before.before.before.before in
+    let start = first.before.before.before.before in
+    let w = lines.put_lines.ensures in
+    record {
+      text = first_line start.args.mission start.args.count ++ w.lines;
+      of_sheet = (w.lines, w.of_curves, refl);
+      writes = first.put_first_line-line.ensures then w.writes;
+    }

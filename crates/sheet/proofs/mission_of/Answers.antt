@@ -1,0 +1,16 @@
+-- `mission_of` meets its contract: the sheet's own bytes hold the number.
+use mathlib.Core.Path.{sym, ap, ◌∙◌}
+use Rattle.sheet.specs.declared.Mission.TheVariants as mission
+use Rattle.sheet.proofs.Missions.{mission-at}
+use Rattle.sheet.proofs.mission_of.Goals as goal
+
+pub returns-then-end-eq0 : goal.returns-then-end-eq0
+returns-then-end-eq0 c = let start = c.before.before in sym ((mission-at start.args.sheet.now).none (sym start.requires ∙ c.if-end-eq0.true))
+
+pub mission_in-requires : goal.mission_in-requires
+mission_in-requires c = let start = c.before.before in ((mission-at start.args.sheet.now).some (λ z. c.if-end-eq0.false (start.requires ∙ z))).0
+
+pub returns : goal.returns
+returns c =
+    let start = c.before.before.before in
+    ap mission.Number c.mission_in.ensures ∙ sym ((mission-at start.args.sheet.now).some (λ z. c.if-end-eq0.false (start.requires ∙ z))).1

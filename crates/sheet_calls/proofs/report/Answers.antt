@@ -1,0 +1,44 @@
+-- `report` meets its contract.
+use borrow.Author.Rules.{rules}
+use mathlib.Core.Path.{ap, ◌∙◌, subst}
+use Prim.Native.Nat.{◌≤◌}
+use native.Mathlib.Omega.{arith}
+use mir.Syntax.{w64}
+use mir.ValLaws.{to_z_pos}
+use Rattle.refusal.specs.declared.Fault.{Fault}
+use Rattle.refusal.specs.Answers.{refused}
+use Rattle.record.proofs.Signs.{settled}
+use Rattle.text.specs.declared.TextAnswer.TheVariants as text
+use Rattle.report_text.specs.Promise.{Reported}
+use Rattle.report_text.proofs.Short.{written_short}
+use Rattle.hand.specs.Promise.{coded as code_of}
+use Rattle.sheet_calls.proofs.report.Goals as goal
+
+-- what the report says, where it is written
+module _ (c : goal.In-Written) where
+  abbrev from : goal.After-write_report
+  from = c.before.before.before.before.before
+
+  done : Reported from.args.s.now from.args.text.now from.write-report.last.1.0 (text.Written c.in-Written.n)
+  done =
+      let s = from.args in
+      subst (Reported s.s.now s.text.now from.write-report.last.1.0) c.in-Written.is from.write_report.ensures
+
+  short : c.in-Written.n ≤ 5335
+  short = written_short _ from.shared_slice_known-1.given _ _ _ done
+
+pub overflow_cast-result : goal.overflow_cast-result
+overflow_cast-result c = record { sfits = omega (arith, short c) }
+
+pub returns-in-Written : goal.returns-in-Written
+returns-in-Written c = (text.Written c.in-Written.n, done c, to_z_pos w64 c.in-Written.n (omega (arith, short c)))
+
+pub returns-in-Refused : goal.returns-in-Refused
+returns-in-Refused c =
+    let k = c.before.before.before in
+    let w = k.before.before.before.before in
+    let s = w.args in (
+      text.Refused k.in-Refused.r,
+      subst (Reported s.s.now s.text.now w.write_report.new.1.0) k.in-Refused.is w.write_report.ensures,
+      settled c.coded.type-inv (c.coded.ensures ∙ ap (λ (f : Fault). code_of (refused f)) c.nowhere.ensures),
+    )

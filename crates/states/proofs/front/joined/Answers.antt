@@ -1,0 +1,29 @@
+-- `front::joined` meets its contract: the part is written over zeros.
+use borrow.Author.Rules.{rules}
+use mathlib.Core.Path.{◌≡◌, sym, ap, ◌∙◌, subst}
+use mathlib.Core.List.{List, ◌++◌}
+use Prim.Native.Nat.{ℕ, ◌-◌}
+use lib.ListN.{length, take, drop}
+use Rattle.states.specs.Words.{unpacked}
+use Rattle.states.specs.Steps.{joined_to, padded}
+use Rattle.states.proofs.Packed.{packed-long}
+use Rattle.states.proofs.Pieces.{joined-padded}
+use Rattle.states.proofs.front.joined.Goals as goal
+
+pub bytes_of-front-requires : goal.bytes_of-front-requires
+bytes_of-front-requires c = ap length c.requires.0 ∙ packed-long _
+
+pub returns : goal.returns
+returns c =
+    let fill = c.before in
+    let bytes = fill.before.before in
+    let s = bytes.before.before.before in
+    let held = s.args.held in
+    let part = s.args.part.now in
+    subst
+    (λ (r : List ℕ).
+    fill.fill.new.0 ≡ take (length (take (52 - held) (drop held r))) part ++ drop (length part) (take (52 - held) (drop held r))
+    → take held r ++ (fill.fill.new.0 ++ drop (52 - held) (drop held r)) ≡ padded (joined_to (take held (unpacked s.args.words.now)) held part))
+    (sym bytes.bytes_of-front.ensures)
+    (joined-padded s.args.words.now part held s.requires.0 s.requires.1)
+    fill.fill.ensures

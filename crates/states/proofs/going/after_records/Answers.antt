@@ -1,0 +1,42 @@
+-- `going::after_records` meets its contract: each number of the state by what the walk finds.
+use borrow.Author.Rules.{rules}
+use mathlib.Core.Path.{◌≡◌, ap, ◌∙◌}
+use mathlib.Core.Bool.{false}
+use mathlib.Core.List.{List}
+use Prim.Native.Nat.{ℕ, ◌+◌, ◌-◌}
+use native.Mathlib.Omega.{arith}
+use lib.ListN.{length, take, drop}
+use Rattle.record.specs.Kinds.{longest_record}
+use Rattle.record.specs.Records.{erased_bytes}
+use Rattle.sheet.specs.Survey.{survey_of}
+use Rattle.sheet.proofs.Faults.{walked_few}
+use Rattle.sheet.proofs.Passed.{rest-is}
+use Rattle.states.specs.Words.{packed}
+use Rattle.states.specs.Steps.{after_records}
+use Rattle.states.proofs.going.after_records.Goals as goal
+
+pub overflow_add-result-2 : goal.overflow_add-result-2
+overflow_add-result-2 c =
+    let w = c.before.before.before in
+    let s = w.before.before in
+    omega (arith, walked_few w.walk-w.ensures, s.requires)
+
+pub returns : goal.returns
+unfolding after_records
+returns c =
+    let w = c.before.before.before.before.before.before in
+    let s = w.args in
+    let rest = s.rest.now in
+    let found = w.walk-w.ensures in
+    let tail : take (length rest - w.walk-w.result.end) (drop w.walk-w.result.end rest) ≡ drop (survey_of false rest).end rest =
+    rest-is rest w.walk-w.result.end ∙ ap (λ (n : ℕ). drop n rest) found.end_is
+    in
+    λ i. record {
+      ended = 0;
+      count = s.count;
+      mission = s.mission;
+      curves = s.state.curves + s.curves + found.curves_is i;
+      place = s.state.place + s.size + found.end_is i;
+      erased = (c.erased_bytes.ensures ∙ ap erased_bytes tail) i;
+      words = (c.front_words.ensures ∙ ap (λ (l : List ℕ). packed (take longest_record l)) tail) i;
+    }

@@ -1,0 +1,7 @@
+-- `put_labelled` meets its contract: a piece, and then another.
+use borrow.Author.Rules.{rules}
+use Rattle.text.proofs.Pieces.{◌then◌}
+use Rattle.text.proofs.put_labelled.Goals as goal
+
+pub returns : goal.returns
+returns c = let number = c.before.before in number.put-number.ensures then number.put_number.ensures

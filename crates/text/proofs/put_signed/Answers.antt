@@ -1,0 +1,20 @@
+-- `put_signed` meets its contract: a label, a sign and the digits.
+use borrow.Author.Rules.{rules}
+use mathlib.Core.Path.{ap, ◌∙◌}
+use lib.IntN.{nat_abs}
+use mir.Syntax.{w64}
+use mir.ValLaws.{to_z-of_z}
+use Rattle.text.specs.Texts.{decimal, sign}
+use Rattle.text.proofs.Pieces.{◌then◌, writes_same}
+use Rattle.text.proofs.put_signed.Goals as goal
+
+pub returns : goal.returns
+returns c =
+    let number = c.before.before in
+    let sized = number.before in
+    let signed = sized.before.before.before.before in
+    let labelled = signed.before.before.before.before in
+    let start = labelled.before.before.before.before in
+    let kept = to_z-of_z w64 start.args.x start.ranges.x in
+    labelled.put-minus.ensures
+    then (writes_same (ap sign kept) signed.put_sign-digits.ensures then writes_same (ap decimal (sized.size.ensures ∙ ap nat_abs kept)) number.put_number.ensures)

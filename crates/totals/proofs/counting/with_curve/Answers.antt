@@ -1,0 +1,20 @@
+-- `counting::with_curve` meets its contract: each number of the totals with the curve's own.
+use mathlib.Core.Path.{ap, ◌∙◌}
+use Prim.Native.Nat.{ℕ, ◌+◌}
+use Rattle.totals.specs.Totals.{longer}
+use Rattle.totals.specs.Promise.{bounded, marked}
+use borrow.Author.Rules.{rules}
+use Rattle.totals.proofs.counting.with_curve.Goals as goal
+
+pub returns : goal.returns
+returns c =
+    let plus = c.before.before in
+    let mark = plus.before.before.before in
+    let t = mark.args.t in
+    λ i. record {
+      sheets = t.sheets;
+      verdicts = (mark.mark.ensures ∙ ap (marked t.verdicts) mark.verdict_of.ensures) i;
+      refused = t.refused;
+      sum = (plus.plus-sum.ensures ∙ ap (λ (n : ℕ). bounded (t.sum + n)) plus.hundredths_of.ensures) i;
+      longest = (c.longer.ensures ∙ ap (longer t.longest) c.alone.ensures) i;
+    }

@@ -1,0 +1,13 @@
+-- `with_answer` meets its contract: a refusal is counted, and nothing else.
+use mathlib.Core.Path.{sym, ap, ◌∙◌}
+use Rattle.sheet.specs.declared.Checked.{Checked}
+use Rattle.sheet.specs.Promise.{answer_of_checked}
+use Rattle.totals.specs.Steps.{with_answer}
+use borrow.Author.Rules.{rules}
+use Rattle.totals.proofs.with_answer.Goals as goal
+
+pub returns-in-Refused : goal.returns-in-Refused
+returns-in-Refused c =
+    let found = c.before.before in
+    let t = found.args.t in
+    c.with_refused.ensures ∙ sym (ap (λ (x : Checked). with_answer t (answer_of_checked x)) found.in-Refused.is)

@@ -1,0 +1,15 @@
+-- `pieces::put_front` meets its contract: number, blank, name and colon.
+use Rattle.text.proofs.Pieces.{◌then◌}
+use borrow.Author.Rules.{rules}
+use Rattle.totals_text.proofs.pieces.put_front.Goals as goal
+
+pub returns : goal.returns
+returns c =
+    let p4 = c.before.before in
+    let p3 = p4.before.before.before.before.before in
+    let p2 = p3.before.before.before.before in
+    let p1 = p2.before.before.before.before.before in
+    p1.put_number-blank.ensures
+    then p2.put-named.ensures
+    then p3.put-colon.ensures
+    then p4.put.ensures

@@ -1,0 +1,35 @@
+-- `pieces::put_refusals` meets its contract: a line for each number.
+use mathlib.Core.Path.{◌∙◌}
+use Rattle.text.proofs.Pieces.{◌then◌}
+use borrow.Author.Rules.{rules}
+use Rattle.totals_text.proofs.pieces.put_refusals.Goals as goal
+
+pub shape_of-area : goal.shape_of-area
+shape_of-area c =
+    let p6 = c.before.before in
+    let p5 = p6.before.before.before.before.before.before in
+    let p4 = p5.before.before.before.before.before.before in
+    let p3 = p4.before.before.before.before.before.before in
+    let p2 = p3.before.before.before.before.before.before in
+    let p1 = p2.before.before.before.before.before.before in
+    p6.put_count.auto.0
+    ∙ p5.put_count-f.auto.0
+    ∙ p4.put_count-e.auto.0
+    ∙ p3.put_count-d.auto.0
+    ∙ p2.put_count-c.auto.0
+    ∙ p1.put_count-b.auto.0
+
+pub returns : goal.returns
+returns c =
+    let p6 = c.before.before in
+    let p5 = p6.before.before.before.before.before.before in
+    let p4 = p5.before.before.before.before.before.before in
+    let p3 = p4.before.before.before.before.before.before in
+    let p2 = p3.before.before.before.before.before.before in
+    let p1 = p2.before.before.before.before.before.before in
+    p1.put_count-b.ensures
+    then p2.put_count-c.ensures
+    then p3.put_count-d.ensures
+    then p4.put_count-e.ensures
+    then p5.put_count-f.ensures
+    then p6.put_count.ensures

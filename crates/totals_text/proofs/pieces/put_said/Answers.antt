@@ -1,0 +1,19 @@
+-- `pieces::put_said` meets its contract: how many curves, or the refusal.
+use mathlib.Core.Path.{sym, ap}
+use Rattle.text.proofs.Pieces.{◌then◌, writes_same}
+use Rattle.sheet.specs.declared.Checked.{Checked}
+use Rattle.sheet.specs.Promise.{answer_of_checked}
+use Rattle.totals_text.specs.Texts.{said}
+use borrow.Author.Rules.{rules}
+use Rattle.totals_text.proofs.pieces.put_said.Goals as goal
+
+pub returns-in-Sheet : goal.returns-in-Sheet
+returns-in-Sheet c =
+    let p2 = c.before.before in
+    let p1 = p2.before.before.before.before.before in
+    writes_same (ap (λ (x : Checked). said (answer_of_checked x)) (sym p1.in-Sheet.is))
+    (p1.put_number-end.ensures
+    then p2.put.ensures)
+
+pub returns-in-Refused : goal.returns-in-Refused
+returns-in-Refused c = let p = c.before.before in writes_same (ap (λ (x : Checked). said (answer_of_checked x)) (sym p.in-Refused.is)) p.Put-refused.ensures

@@ -1,0 +1,39 @@
+-- `put_totals` meets its contract: the lines one after another.
+use mathlib.Core.Path.{◌∙◌}
+use Rattle.text.proofs.Pieces.{◌then◌}
+use borrow.Author.Rules.{rules}
+use Rattle.totals_text.proofs.put_totals.Goals as goal
+
+pub shape_of-area : goal.shape_of-area
+shape_of-area c =
+    let p7 = c.before.before in
+    let p6 = p7.before.before.before.before in
+    let p5 = p6.before.before.before.before.before in
+    let p4 = p5.before.before.before.before in
+    let p3 = p4.before.before.before.before.before in
+    let p2 = p3.before.before.before.before.before in
+    let p1 = p2.before.before.before.before.before in
+    p7.put_longest.auto.0
+    ∙ p6.put-f.auto.0
+    ∙ p5.put_hundredths-e.auto.0
+    ∙ p4.put-d.auto.0
+    ∙ p3.put_refusals-c.auto.0
+    ∙ p2.put_counts-b.auto.0
+    ∙ p1.put_count-a.auto.0
+
+pub returns : goal.returns
+returns c =
+    let p7 = c.before.before in
+    let p6 = p7.before.before.before.before in
+    let p5 = p6.before.before.before.before.before in
+    let p4 = p5.before.before.before.before in
+    let p3 = p4.before.before.before.before.before in
+    let p2 = p3.before.before.before.before.before in
+    let p1 = p2.before.before.before.before.before in
+    p1.put_count-a.ensures
+    then p2.put_counts-b.ensures
+    then p3.put_refusals-c.ensures
+    then p4.put-d.ensures
+    then p5.put_hundredths-e.ensures
+    then p6.put-f.ensures
+    then p7.put_longest.ensures

@@ -1,0 +1,40 @@
+-- `is_still` meets its contract, by the kind of curve.
+use mathlib.Core.Path.{sym, subst}
+use mathlib.Core.List.{[]}
+use borrow.Author.Rules.{rules}
+use Rattle.whole.specs.Number.{Tells}
+use Rattle.poly.specs.Polynomials.{Same}
+use Rattle.whole.proofs.Flags.{told, untold, told-map}
+use Rattle.pair.specs.Pairs.{pairs}
+use Rattle.curve.specs.declared.Legs.{Legs}
+use Rattle.curve.specs.Steps.{legs_of}
+use Rattle.pair.proofs.Parts.{three-none}
+use Rattle.verdict.proofs.Known.{five_none}
+use Rattle.verdict.proofs.is_still.Goals as goal
+
+abbrev Still : Legs → Type 0
+Still l = Same pairs (legs_of l) []
+
+pub returns-then-not-three_are_zero : goal.returns-then-not-three_are_zero
+returns-then-not-three_are_zero c h =
+    let t = c.before in
+    let z = subst Still t.in-Quintic.is h in
+    untold t.three_are_zero-in-Quintic.result t.three_are_zero-in-Quintic.ensures c.if-not-three_are_zero.true-raw (three-none (z 0) (z 1) (z 2))
+
+pub returns-then-not-is_zero : goal.returns-then-not-is_zero
+returns-then-not-is_zero c h =
+    let t = c.before.before.before in
+    untold c.is_zero.result c.is_zero.ensures c.if-not-is_zero.true-raw (subst Still t.in-Quintic.is h 3)
+
+pub returns-in-Cubic : goal.returns-in-Cubic
+returns-in-Cubic c = subst (λ l. Tells (Still l) c.three_are_zero.result) (sym c.in-Cubic.is) c.three_are_zero.ensures
+
+pub returns-else-not-is_zero : goal.returns-else-not-is_zero
+returns-else-not-is_zero c =
+    let fourth = c.before in
+    let first = fourth.before.before in
+    let t = first.before in
+    let z = told t.three_are_zero-in-Quintic.result t.three_are_zero-in-Quintic.ensures first.if-not-three_are_zero.false-raw in
+    let d = told fourth.is_zero.result fourth.is_zero.ensures fourth.if-not-is_zero.false-raw in
+    subst (λ l. Tells (Still l) c.is_zero-in-Quintic.result) (sym t.in-Quintic.is)
+    (told-map (λ e. five_none z d e) (λ h. h 4) c.is_zero-in-Quintic.result c.is_zero-in-Quintic.ensures)

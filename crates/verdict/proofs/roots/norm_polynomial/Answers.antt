@@ -1,0 +1,53 @@
+-- `roots::norm_polynomial` meets its contract.
+use mathlib.Core.Path.{sym, ap, ap₂, ◌∙◌, subst}
+use mathlib.Core.List.{List}
+use borrow.Author.Rules.{rules}
+use lib.IntN.{ℤ, ◌+ℤ◌}
+use Rattle.whole.specs.Coefficients.{at}
+use Rattle.poly.specs.Polynomials.{square}
+use Rattle.whole.specs.Number.{wholes, Within, norm_size}
+use Rattle.whole.proofs.Wholes.{wholes_ring}
+use Rattle.poly.proofs.Lists.{at_sum}
+use Rattle.root.specs.Promise.{octic, quartic}
+use Rattle.curve.specs.Curves.{reals, imaginaries, norm_polynomial}
+use Rattle.curve.specs.Steps.{leg_powers}
+use Rattle.verdict.proofs.Lengthening.{Slight, parts_slight, slight_small, square-sized}
+use Rattle.verdict.proofs.roots.norm_polynomial.Goals as goal
+
+-- ---- with the first coordinates
+module _ (c : goal.After-reals) where
+  re_slight : Slight (quartic c.reals.result)
+  re_slight = subst Slight (sym c.reals.ensures) (parts_slight c.args.e c.requires).0
+
+pub square-requires : goal.square-requires
+square-requires c = slight_small (quartic c.reals.result) (re_slight c)
+
+module _ (c : goal.After-imaginaries) where
+  im_slight : Slight (quartic c.imaginaries.result)
+  im_slight = let s = c.before.before.before in subst Slight (sym c.imaginaries.ensures) (parts_slight s.args.e s.requires).1
+
+pub square-requires-2 : goal.square-requires-2
+square-requires-2 c = slight_small (quartic c.imaginaries.result) (im_slight c)
+
+pub added-requires : goal.added-requires
+added-requires c =
+    let i = c.before in
+    let r = i.before.before in (
+      λ k. subst (Within norm_size) (i.square.ensures k) (square-sized r.reals.result (re_slight r) k),
+      λ k. subst (Within norm_size) (c.square-2.ensures k) (square-sized i.imaginaries.result (im_slight i) k),
+    )
+
+pub returns : goal.returns
+unfolding norm_polynomial
+returns c k =
+    let i = c.before.before in
+    let r = i.before.before in
+    let e = leg_powers r.args.e in
+    let m = i.square.result in
+    let n = c.square-2.result in
+    ap (λ (l : List ℤ). at wholes l k) c.added.ensures
+    ∙ at_sum wholes_ring (octic m) (octic n) k
+    ∙ ap₂ ◌+ℤ◌
+    (sym (i.square.ensures k) ∙ ap (λ (l : List ℤ). at wholes (square wholes l) k) r.reals.ensures)
+    (sym (c.square-2.ensures k) ∙ ap (λ (l : List ℤ). at wholes (square wholes l) k) i.imaginaries.ensures)
+    ∙ sym (at_sum wholes_ring (square wholes (reals e)) (square wholes (imaginaries e)) k)

@@ -1,0 +1,17 @@
+-- What the loops of `odd_common` keep.
+use mathlib.Core.Path.{◌≡◌, subst}
+use mathlib.Core.Logic.Iff
+use mathlib.Core.Logic.{◌↔◌}
+use Prim.Native.Nat.{ℕ, ◌+◌, ◌%◌}
+use native.Mathlib.Omega.{arith}
+use lib.IntN.{ℤ, pos}
+use Rattle.whole.specs.Coefficients.{Divides}
+use Rattle.whole.specs.Number.{wholes}
+use Rattle.whole.proofs.Evens.{Both, both_turned, odd_part_le, odd_step, shared_greatest}
+use Rattle.whole.proofs.odd_common.Given as goal
+
+abbrev pub invariant-loop-x : goal.invariant-loop-x
+invariant-loop-x l = (l.x % 2 ≡ 1) × (l.y % 2 ≡ 1) × ((d : ℤ) → Both d l.x l.y ↔ Both d l.a l.b)
+
+abbrev pub decreases-loop-x : goal.decreases-loop-x
+decreases-loop-x l = l.x + l.y
