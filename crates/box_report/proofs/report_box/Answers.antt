@@ -8,8 +8,10 @@ use lib.Seq.{length-take-le}
 use Rattle.box_report.proofs.Filled.{totals_room}
 use borrow.Author.Rules.{rules}
 use Rattle.box_report.proofs.report_box.Goals as goal
+use Rattle.box_report.proofs.report_box.Lts as at
+use Rattle.box_report.proofs.report_box.Reads as reads
 
-text_long : (c : goal.After-take_files-s) → 512 ≤ length c.take_files-s.new.1.1.0
+text_long : (c : at.After-take_files reads.Pre reads.Post) → 512 ≤ length c.take_files-s.new.1.1.0
 text_long c = omega (arith, c.take_files-s.auto.1.1.0, c.requires.text_long)
 
 pub lines_of-end-requires : goal.lines_of-end-requires

@@ -13,8 +13,8 @@ loop-i-init c = (boxed_none _ c.no_sheets-t.ensures, refl, refl, refl)
 
 pub take_file-s-requires : goal.take_file-s-requires
 take_file-s-requires c =
-    let l = c.before.before.before.before in
-    let start = l.before.before.before.before.before.before in
+    let l = c in
+    let start = l in
     let inv = l.loop-i.invariant in
     let areas = start.requires in (
       inv.0,
@@ -26,20 +26,20 @@ take_file-s-requires c =
     )
 
 pub shape_of-name-then-s : goal.shape_of-name-then-s
-shape_of-name-then-s c = let f = c.before.before.before.before.before.before.before.before in f.take_file-s.auto.1.1.0 ∙ f.loop-i.invariant.1
+shape_of-name-then-s c = let f = c in f.take_file-s.auto.1.1.0 ∙ f.loop-i.invariant.1
 
 pub shape_of-sheet-then-s : goal.shape_of-sheet-then-s
-shape_of-sheet-then-s c = let f = c.before.before.before.before.before.before.before.before in f.take_file-s.auto.1.1.1.0 ∙ f.loop-i.invariant.2
+shape_of-sheet-then-s c = let f = c in f.take_file-s.auto.1.1.1.0 ∙ f.loop-i.invariant.2
 
 pub shape_of-text-then-s : goal.shape_of-text-then-s
-shape_of-text-then-s c = let f = c.before.before.before.before.before.before.before.before in f.take_file-s.auto.1.1.1.1.0 ∙ f.loop-i.invariant.3
+shape_of-text-then-s c = let f = c in f.take_file-s.auto.1.1.1.1.0 ∙ f.loop-i.invariant.3
 
 pub returns-then-s : goal.returns-then-s
 returns-then-s c = c.take_file-s.ensures
 
 pub loop-i-preserved : goal.loop-i-preserved
 loop-i-preserved c =
-    let f = c.before.before.before.before.before.before.before.before in
+    let f = c in
     let inv = f.loop-i.invariant in
     let kept = f.take_file-s.auto.1.1 in
     (f.take_file-s.ensures, kept.0 ∙ inv.1, kept.1.0 ∙ inv.2, kept.1.1.0 ∙ inv.3)

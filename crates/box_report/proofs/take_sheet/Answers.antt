@@ -8,14 +8,14 @@ use Rattle.box_report.proofs.take_sheet.Goals as goal
 
 pub returns-then-totals-t : goal.returns-then-totals-t
 returns-then-totals-t c =
-    let add = c.before.before.before.before in
-    let start = add.before.before.before.before in
+    let add = c in
+    let start = add in
     boxed_added start.args.t start.args.sheet.now add.add_sheet-r.result start.requires.0 add.add_sheet-r.ensures
 
 pub line_of-end-requires : goal.line_of-end-requires
 line_of-end-requires c =
-    let add = c.before.before.before.before.before in
-    let start = add.before.before.before.before in
+    let add = c in
+    let start = add in
     let name = start.args.name.now in
     omega (
       arith,
@@ -29,6 +29,6 @@ slice_bounds-write_all-end-2 c = sym (length-take-le _ _ c.before.before.before.
 
 pub returns : goal.returns
 returns c =
-    let add = c.before.before.before.before.before.before.before.before.before.before in
-    let start = add.before.before.before.before in
+    let add = c in
+    let start = add in
     boxed_added start.args.t start.args.sheet.now add.add_sheet-r.result start.requires.0 add.add_sheet-r.ensures

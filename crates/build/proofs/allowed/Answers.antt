@@ -18,9 +18,9 @@ returns-then-not-within-4 c h = untold c.within-4.result c.within-4.ensures c.if
 
 pub returns : goal.returns
 returns c =
-    let c3 = c.before.before in
-    let c2 = c3.before.before in
-    let c1 = c2.before.before in (
+    let c3 = c in
+    let c2 = c3 in
+    let c1 = c2 in (
       told c1.within.result c1.within.ensures c1.if-not-within.false-raw,
       all-within
           (told c2.within-2.result c2.within-2.ensures c2.if-not-within-2.false-raw)

@@ -8,6 +8,8 @@ use Rattle.build.specs.Promise.{Source, cubic, pairs_of, Allowed, AllZero}
 use Rattle.build.proofs.Triples.{allowed_two, none_two}
 use Rattle.build.proofs.Answers.{refused_range, refused-still, answered}
 use Rattle.build.proofs.build_cubic.Goals as goal
+use Rattle.build.proofs.build_cubic.Lts as at
+use Rattle.build.proofs.build_cubic.Reads as reads
 
 module _ (c : goal.Start) where
   abbrev p0 : Pair
@@ -16,10 +18,10 @@ module _ (c : goal.Start) where
   abbrev s : Source
   s = cubic c.args.w0 c.args.w1
 
-allowed_tells : (c : goal.After-allowed) → Tells (Allowed (p0 c.before) (pairs_of (s c.before))) c.allowed.result
+allowed_tells : (c : at.After-allowed reads.Pre reads.Post) → Tells (Allowed (p0 c.before) (pairs_of (s c.before))) c.allowed.result
 allowed_tells c = let a = c.args in allowed_two a.w0 a.w1 a.p0 c.allowed.result c.allowed.ensures
 
-zero_tells : (c : goal.After-three_are_zero) → Tells (AllZero (pairs_of (s c.before.before.before))) c.three_are_zero.result
+zero_tells : (c : at.After-three_are_zero reads.Pre reads.Post) → Tells (AllZero (pairs_of (s c.before.before.before))) c.three_are_zero.result
 zero_tells c = let a = c.args in none_two a.w0 a.w1 c.three_are_zero.result c.three_are_zero.ensures
 
 pub returns-then-not-allowed : goal.returns-then-not-allowed
@@ -38,7 +40,7 @@ cubic_points-requires c = let a = is-allowed c.before.before in (a.0, a.1 0, a.1
 
 pub returns : goal.returns
 returns c =
-    let e = c.before.before in
+    let e = c in
     let b = e.before.before.before.before in
     answered (p0 b) (s b) (is-allowed e.before.before) (subst (Tells _) e.if-three_are_zero.false (zero_tells e.before)) (λ n. n) _ refl _ c.cubic_points.ensures c.ranged.result
     c.ranged.ensures

@@ -13,6 +13,8 @@ use Rattle.build.proofs.Sizes.{thrice-within, third-within}
 use Rattle.build.proofs.Legs.{third-found}
 use Rattle.build.proofs.Answers.{refused_range, refused-still, refused_thirds, answered}
 use Rattle.build.proofs.build_quintic.Goals as goal
+use Rattle.build.proofs.build_quintic.Lts as at
+use Rattle.build.proofs.build_quintic.Reads as reads
 
 module _ (c : goal.Start) where
   abbrev p0 : Pair
@@ -45,7 +47,7 @@ over_whole-requires c = omega linear
 abbrev o : goal.Else-three_are_zero → goal.Start
 o c = c.before.before.before.before
 
-third-is : (c : goal.After-over_whole) → IsOverWhole (t (o c.before.before)) (pos 3) c.over_whole.result
+third-is : (c : at.After-over_whole reads.Pre reads.Post) → IsOverWhole (t (o c.before.before)) (pos 3) c.over_whole.result
 third-is c = subst (λ (x : Pair). IsOverWhole x (pos 3) c.over_whole.result) c.thrice_middle.ensures c.over_whole.ensures
 
 pub returns-in_default : goal.returns-in_default
@@ -74,5 +76,5 @@ returns c =
     let d = c.before.before in
     let e = passed d in
     let b = o e in
-    answered (p0 b) (s b) (is-allowed e.before.before) (subst (Tells _) e.if2.left e.three_are_zero.ensures) (third-found (d2 d) (middle d)) _ (d2 d, middle d, refl) _
+    answered (p0 b) (s b) (is-allowed e.before.before) (subst (Tells _) e.if-three_are_zero.false e.three_are_zero.ensures) (third-found (d2 d) (middle d)) _ (d2 d, middle d, refl) _
     c.quintic_points.ensures c.ranged.result c.ranged.ensures

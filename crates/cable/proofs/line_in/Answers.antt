@@ -11,24 +11,26 @@ use Rattle.cable.specs.Cables.{answer_line}
 use Rattle.cable.proofs.Arrivals.{Says, says, line_short}
 use borrow.Author.Rules.{rules}
 use Rattle.cable.proofs.line_in.Goals as goal
+use Rattle.cable.proofs.line_in.Lts as at
+use Rattle.cable.proofs.line_in.Reads as reads
 
 -- what is told of the bytes, by its case
-told_of_lem : (c : goal.After-ask-told) {x : Told} → c.ask-told.result ≡ x → (s : List ℕ) → IsOf c.args.state s false → Says s x
+told_of_lem : (c : at.After-ask reads.Pre reads.Post) {x : Told} → c.ask-told.result ≡ x → (s : List ℕ) → IsOf c.args.state s false → Says s x
 told_of_lem c e s h =
-    let end = c.before in
+    let end = c in
     subst (Says s) e (says end.args.state end.end-ended.result c.ask-told.result end.end-ended.ensures c.ask-told.ensures s h)
 
 pub line_of-requires : goal.line_of-requires
 line_of-requires c =
-    let found = c.before.before in
+    let found = c in
     let ask = found.before.before in
     let pre = ask.requires in
     omega (arith, line_short pre.0.0 pre.0.1.bytes, ap (λ a. length (answer_line a)) (told_of_lem ask found.in-Sheet.is pre.0.0 pre.0.1), pre.1)
 
 pub returns-in-Sheet : goal.returns-in-Sheet
 returns-in-Sheet c =
-    let line = c.before.before in
-    let found = line.before.before.before in
+    let line = c in
+    let found = line in
     let w = line.Line-of.ensures in
     record { fits = w.0; is = λ s h. w.1 ∙ ap answer_line (told_of_lem found.before.before found.in-Sheet.is s h) }
 

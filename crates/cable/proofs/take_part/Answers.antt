@@ -5,7 +5,7 @@ use Rattle.cable.proofs.take_part.Goals as goal
 
 pub returns : goal.returns
 returns c =
-    let fed = c.before in
-    let known = fed.before in
+    let fed = c in
+    let known = fed in
     let start = known.args in
     λ s h. part_taken start.state s start.part.now fed.feed-fed.result (bytes-all start.part.now known.shared_slice_known-1.given) fed.feed-fed.ensures h

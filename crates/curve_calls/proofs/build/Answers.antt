@@ -11,7 +11,7 @@ use Rattle.curve_calls.proofs.build.Goals as goal
 
 pub returns-in-Cubic : goal.returns-in-Cubic
 returns-in-Cubic c =
-    let k = c.before.before.before.before.before in
+    let k = c in
     let s = k.ranges in
     let v = k.w0-1.given in
     let r = c.build_cubic in
@@ -23,7 +23,7 @@ returns-in-Cubic c =
 
 pub returns-in-Quintic : goal.returns-in-Quintic
 returns-in-Quintic c =
-    let k = c.before.before.before.before.before in
+    let k = c in
     let s = k.ranges in
     let v = k.w0-in-Quintic-1.given in
     let r = c.build_quintic in
@@ -35,5 +35,5 @@ returns-in-Quintic c =
 
 pub returns-in-WrongCount : goal.returns-in-WrongCount
 returns-in-WrongCount c =
-    let k = c.before.before.before in
+    let k = c in
     inl (subst (IsSource _) k.in-WrongCount.is k.source_in.ensures, hands_same refl c.refused.type-inv c.refused.ensures)

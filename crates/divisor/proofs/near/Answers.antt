@@ -12,16 +12,18 @@ use Rattle.pair.proofs.Laws.{norm_some}
 use Rattle.divisor.proofs.Division.{over-within}
 use Rattle.divisor.proofs.Rounding.{nearest-near, rounded-near}
 use Rattle.divisor.proofs.near.Goals as goal
+use Rattle.divisor.proofs.near.Lts as at
+use Rattle.divisor.proofs.near.Reads as reads
 
 pub returns-then-d-gt-NEAR_NORM : goal.returns-then-d-gt-NEAR_NORM
 returns-then-d-gt-NEAR_NORM c = let h = c.requires in nearest-near h.0 h.1 h.2 c.nearest.ensures
 
-d-is : (c : goal.After-norm-d) → to_z w64 (of_z w64 c.norm-d.result) ≡ norm c.args.b
+d-is : (c : at.After-norm reads.Pre reads.Post) → to_z w64 (of_z w64 c.norm-d.result) ≡ norm c.args.b
 d-is c = to_z-of_z w64 _ (search rules) ∙ c.norm-d.ensures
 
 small : (c : goal.Else-d-gt-NEAR_NORM) → nat_abs (norm c.args.b) ≤ 2 ^ 36
 small c =
-    let s = c.before.before in
+    let s = c in
     let p = norm_some s.args.b s.requires.2 in
     let k = rw (d-is c.before) at c.if-d-gt-NEAR_NORM.false in
     let n = norm s.args.b in
@@ -29,10 +31,10 @@ small c =
 
 pub rounded-requires : goal.rounded-requires
 rounded-requires c =
-    let s = c.before.before.before in
+    let s = c in
     rw (d-is c.before.before, c.numerator.ensures) (norm_some s.args.b s.requires.2, over-within s.args.b s.requires.0)
 
 pub returns : goal.returns
 returns c =
-    let s = c.before.before.before.before in
+    let s = c in
     rw (c.rounded.ensures, d-is c.before.before.before, c.numerator.ensures) (rounded-near s.requires.0 s.requires.2 (small c.before.before))

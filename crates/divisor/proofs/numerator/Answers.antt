@@ -6,9 +6,11 @@ use Rattle.whole.proofs.Wholes.{readℤ, ringℤ}
 use Rattle.whole.proofs.Bound.{Bounded, bounds, fits, kept}
 use Rattle.pair.proofs.Parts.{parts_two, pair-equal}
 use Rattle.divisor.proofs.numerator.Goals as goal
+use Rattle.divisor.proofs.numerator.Lts as at
+use Rattle.divisor.proofs.numerator.Reads as reads
 
 module _ (c : goal.After-struct_told-4-1) where
-  abbrev s : goal.Start
+  abbrev s : at.Start reads.Pre reads.Post
   s = c.before.before.before.before
 
   sizes : Bounded (2 ^ 40 ∷ 2 ^ 40 ∷ 2 ^ 20 ∷ 2 ^ 20 ∷ []) (s.args.a.re ∷ s.args.a.im ∷ s.args.b.re ∷ s.args.b.im ∷ [])

@@ -12,6 +12,8 @@ use Rattle.whole.specs.declared.Exact.{Exact}
 use Rattle.whole.proofs.Linear.{linear}
 use Rattle.pair.proofs.Parts.{pair-equal}
 use Rattle.divisor.proofs.over_whole.Goals as goal
+use Rattle.divisor.proofs.over_whole.Lts as at
+use Rattle.divisor.proofs.over_whole.Reads as reads
 
 abbrev bits : ℤ → ℤ
 bits x = to_z w64 (of_z w64 x)
@@ -21,7 +23,7 @@ divisible : (x : ℤ) {n : ℤ} → pos 0 <ℤ n → Divisible x n
 divisible x h = record { nonzero = λ e. omega linear; not_least = λ e f. omega linear }
 
 module _ (c : goal.After-struct_told-2-1) where
-  abbrev o : goal.Start
+  abbrev o : at.Start reads.Pre reads.Post
   o = c.before.before
 
   n-is : bits o.args.n ≡ o.args.n
@@ -40,7 +42,7 @@ pub quotient-requires : goal.quotient-requires
 quotient-requires c = divisible _ (positive c)
 
 pub returns-in_default : goal.returns-in_default
-returns-in_default c = let d = c.before.before in inl (subst (IsQuotient _ _) c.in_default.is (re-quotient d.before d.quotient.result d.quotient.ensures))
+returns-in_default c = let d = c in inl (subst (IsQuotient _ _) c.in_default.is (re-quotient d.before d.quotient.result d.quotient.ensures))
 
 -- the start, from where the first part has its quotient
 abbrev first : goal.In-Whole → goal.After-struct_told-2-1
@@ -50,13 +52,13 @@ pub quotient-requires-2 : goal.quotient-requires-2
 quotient-requires-2 c = divisible _ (positive (first c))
 
 pub returns-in_default-quotient : goal.returns-in_default-quotient
-returns-in_default-quotient c = let d = c.before.before in inr (subst (IsQuotient _ _) c.in_default-quotient.is (im-quotient (first d.before) d.quotient-2.result d.quotient-2.ensures))
+returns-in_default-quotient c = let d = c in inr (subst (IsQuotient _ _) c.in_default-quotient.is (im-quotient (first d.before) d.quotient-2.result d.quotient-2.ensures))
 
 pub returns : goal.returns
 returns c =
-    let v = c.before in
-    let d = v.before.before in
-    let u = d.before.before in
+    let v = c in
+    let d = v in
+    let u = d in
     let s = first d.before in
     let e = subst (IsQuotient _ _) u.in-Whole.is (re-quotient s u.quotient.result u.quotient.ensures) in
     let f = subst (IsQuotient _ _) v.in-Whole-quotient.is (im-quotient s d.quotient-2.result d.quotient-2.ensures) in

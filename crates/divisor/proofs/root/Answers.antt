@@ -33,17 +33,17 @@ overflow_cast-squared c = rw (n-is c) (cast_asks (norm_nonneg c.args.z) (n_fits 
 
 pub returns-then-not-ends_as_a_square : goal.returns-then-not-ends_as_a_square
 returns-then-not-ends_as_a_square c w e =
-    let t = c.before in
+    let t = c in
     no_end (untold t.ends_as_a_square.result t.ends_as_a_square.ensures c.if-not-ends_as_a_square.true-raw) (nat_abs (norm w)) (squared t.before w e)
 
 pub returns-then-size-ne0 : goal.returns-then-size-ne0
 returns-then-size-ne0 c w e =
-    let s = c.before.before in
+    let s = c in
     no_root s.square_root-size.ensures c.if-size-ne0.true (nat_abs (norm w)) (squared s.before.before.before w e)
 
 pub candidate-requires : goal.candidate-requires
 candidate-requires c =
-    let s = c.before.before in
+    let s = c in
     let t = s.before.before.before in
     let z = t.args.z in
     let n = s.square_root-size.result.root in

@@ -16,8 +16,8 @@ returns-then-p-eq8 c =
 
 pub returns-then-p-eq12 : goal.returns-then-p-eq12
 returns-then-p-eq12 c =
-    let four = c.before.before in
-    let two = four.before.before in
+    let four = c in
+    let two = four in
     let p0 = two.pair_at-then-p-eq12.ensures in
     let p1 = two.pair_at-then-p-eq12-2.ensures in
     let p2 = four.pair_at-then-p-eq12-3.ensures in

@@ -11,8 +11,8 @@ use Rattle.hand.proofs.hand.Goals as goal
 
 pub returns-then-area-n : goal.returns-then-area-n
 returns-then-area-n c =
-    let refused = c.before in
-    let tested = refused.before.before in
+    let refused = c in
+    let tested = refused in
     hands_short tested.args.values.now tested.if-area-n.true (hands_same refl refused.refused.type-inv refused.refused.ensures)
 
 pub shape_of-area : goal.shape_of-area
@@ -20,7 +20,7 @@ shape_of-area c = search rules
 
 pub returns : goal.returns
 returns c =
-    let k = c.before.before.before.before in
+    let k = c in
     let s = k.args in
     let vs = s.values.now in
     let rest = drop (length vs) s.area.now in

@@ -14,7 +14,7 @@ multiple-requires-2 c =
 
 pub difference-requires : goal.difference-requires
 difference-requires c =
-    let s = c.before in
+    let s = c in
     let p = s.requires in (
       rw s.multiple.ensures (wider (omega arith) (multiple-within 24 p.travel)),
       rw (c.multiple-2.ensures, s.sum.ensures) (wider (omega arith) (multiple-within 15 (plus-within p.first p.last))),
@@ -22,6 +22,6 @@ difference-requires c =
 
 pub returns : goal.returns
 returns c =
-    let m = c.before in
-    let s = m.before in
+    let m = c in
+    let s = m in
     c.difference.ensures ∙ ap₂ minus s.multiple.ensures (m.multiple-2.ensures ∙ ap (multiple (pos 15)) s.sum.ensures)

@@ -24,14 +24,14 @@ pub product-requires : goal.product-requires
 product-requires c = let s = wide c in (search rules, search rules)
 
 pub returns-then-not-is_even : goal.returns-then-not-is_even
-returns-then-not-is_even c h = let t = c.before in untold t.is_even.result (subst (λ (x : Pair). Tells (Even x) t.is_even.result) t.product.ensures t.is_even.ensures) c.if-not-is_even.true-raw h.0
+returns-then-not-is_even c h = let t = c in untold t.is_even.result (subst (λ (x : Pair). Tells (Even x) t.is_even.result) t.product.ensures t.is_even.ensures) c.if-not-is_even.true-raw h.0
 
 pub product-requires-2 : goal.product-requires-2
 product-requires-2 c = let s = wide c.before.before.before in (search rules, search rules)
 
 pub returns : goal.returns
 returns c =
-    let p = c.before in
-    let t = p.before.before in
+    let p = c in
+    let t = p in
     let first = told t.is_even.result (subst (λ (x : Pair). Tells (Even x) t.is_even.result) t.product.ensures t.is_even.ensures) p.if-not-is_even.false-raw in
     told-map (λ h. (first, h)) (λ h. h.1) c.is_even-2.result (subst (λ (x : Pair). Tells (Even x) c.is_even-2.result) p.product-2.ensures c.is_even-2.ensures)

@@ -14,8 +14,8 @@ returns-then-not-within-3 c h = untold c.within-3.result c.within-3.ensures c.if
 
 pub returns : goal.returns
 returns c =
-    let d = c.before.before in
-    let e = d.before.before in
+    let d = c in
+    let e = d in
     record {
       first = told e.within.result e.within.ensures e.if-not-within.false-raw;
       last = told d.within-2.result d.within-2.ensures d.if-not-within-2.false-raw;

@@ -15,5 +15,5 @@ returns-in-Whole c = let q = c.enum_told-1.given in (q.0.0, subst (IsOverWhole _
 
 pub returns-in-None : goal.returns-in-None
 returns-in-None c (h, e) =
-    let d = c.before.before in
+    let d = c in
     undivided_none d.args.x (pos 2) h (subst (IsOverWhole _ (pos 2)) c.in-None.is d.over_whole.ensures) e

@@ -22,6 +22,8 @@ use Rattle.join.specs.declared.JoinAnswer.TheVariants as answers
 use Rattle.join.specs.Promise.{EndsInRange, DeadEnd, Joined, causes, numbers}
 use Rattle.join.proofs.Writing.{numbers-length}
 use Rattle.join.proofs.joins.Goals as goal
+use Rattle.join.proofs.joins.Lts as at
+use Rattle.join.proofs.joins.Reads as reads
 
 -- a refusal clears the area
 shut : (a z T : Pair) (before after : List ℤ) (r : Refusal) (s : JoinAnswer) → Cleared before after × (s ≡ answers.Refused r)
@@ -30,8 +32,8 @@ shut a z T before after r s (e, f) h = subst (Joined a z T before after) (sym f)
 
 pub returns-then-not-in_range : goal.returns-then-not-in_range
 returns-then-not-in_range c =
-    let i = c.before.before.before in
-    let s = i.before.before in
+    let i = c in
+    let s = i in
     shut s.args.a s.args.z s.args.t s.args.area.now c.refused.new.0 R.Range c.refused.result c.refused.ensures
     (inl (untold i.in_range.result i.in_range.ensures i.if-not-in_range.true-raw, refl))
 
@@ -40,36 +42,36 @@ ranged c = told c.in_range.result c.in_range.ensures c.if-not-in_range.false-raw
 
 pub returns-then-is_dead_end : goal.returns-then-is_dead_end
 returns-then-is_dead_end c =
-    let i = c.before.before.before in
+    let i = c in
     let e = i.before.before in
-    let s = e.before.before in
+    let s = e in
     shut s.args.a s.args.z s.args.t s.args.area.now c.refused-then-is_dead_end.new.0 R.DeadEnd c.refused-then-is_dead_end.result c.refused-then-is_dead_end.ensures
     (inr (λ n. n (ranged e), inl (subst (Tells _) i.if-is_dead_end.true i.is_dead_end.ensures, refl)))
 
-alive : (c : goal.Else-is_dead_end) → DeadEnd c.args.a c.args.z → ⊥
+alive : (c : at.Else2 reads.Pre reads.Post) → DeadEnd c.args.a c.args.z → ⊥
 alive c = subst (Tells _) c.if-is_dead_end.false c.is_dead_end.ensures
 
 pub returns-then-area-lt24 : goal.returns-then-area-lt24
 returns-then-area-lt24 c =
-    let i = c.before.before.before in
+    let i = c in
     let f = i.before in
-    let s = f.before.before.before.before in
+    let s = f in
     shut s.args.a s.args.z s.args.t s.args.area.now c.refused-then-area-lt24.new.0 R.Room c.refused-then-area-lt24.result c.refused-then-area-lt24.ensures
     (inr (λ n. n (ranged f.before.before), inr (alive f, inl (omega (arith, i.if-area-lt24.true), refl))))
 
 pub put_all-k-requires : goal.put_all-k-requires
 put_all-k-requires c =
     let f = c.before.before in
-    let s = f.before.before.before.before in
+    let s = f in
     let room : 24 ≤ length s.args.area.now = omega (arith, c.if-area-lt24.false) in
     (ranged f.before.before, alive f, room)
 
 pub returns : goal.returns
 returns c =
-    let p = c.before.before.before.before in
-    let e = p.before.before in
+    let p = c in
+    let e = p in
     let f = e.before in
-    let s = f.before.before.before.before in
+    let s = f in
     let w = p.put_all_lem.ensures in
     let k = p.put_all_lem.result in
     let behind : k ≡ length (numbers w.triples) = omega (arith, w.next_is, numbers-length w.triples) in

@@ -11,9 +11,11 @@ use mir.Val.{SFits, to_z, of_z}
 use mir.ValLaws.{to_z-of_z}
 use Rattle.join.specs.Promise.{numbers}
 use Rattle.join.proofs.put.Goals as goal
+use Rattle.join.proofs.put.Lts as at
+use Rattle.join.proofs.put.Reads as reads
 
 module _ (c : goal.After-struct_told-6-1) where
-  abbrev s : goal.Start
+  abbrev s : at.Start reads.Pre reads.Post
   s = c.before.before.before.before.before.before
 
   abbrev bits : ℤ → ℤ

@@ -12,6 +12,8 @@ use Rattle.join.proofs.Centres.{ends_join, join_ends}
 use Rattle.join.proofs.Sizes.{fixed-within}
 use Rattle.join.proofs.Writing.{writes_none, writes_as, writes_same}
 use Rattle.join.proofs.put_all.Goals as goal
+use Rattle.join.proofs.put_all.Lts as at
+use Rattle.join.proofs.put_all.Reads as reads
 
 pub returns-in_default : goal.returns-in_default
 returns-in_default c = writes_none (λ w j. subst (IsPairRoot _) c.in_default.is c.root.ensures w.w0 j.first)
@@ -20,7 +22,7 @@ pub returns-in_default-root : goal.returns-in_default-root
 returns-in_default-root c = writes_none (λ w j. subst (IsPairRoot _) c.in_default-root.is c.root-2.ensures w.w2 j.last)
 
 -- ---- with both roots
-module _ (c : goal.In-Root-root) where
+module _ (c : at.After-known_told2 reads.Pre reads.Post) where
   abbrev k : goal.In-Root
   k = c.before.before.before.before
 
@@ -74,8 +76,8 @@ put_ends-requires c =
 
 pub returns : goal.returns
 returns c =
-    let p = c.before in
-    let f = p.before in
+    let p = c in
+    let f = p in
     let t = f.before.before in
     writes_as (omega arith)
     (ends_join (a t) (z t) (T t) (w0 t) (first t).squared ((first t).sign (w0_some t)) (r t) (last t).squared)

@@ -15,13 +15,15 @@ use Rattle.join.proofs.Centres.{signs_centred, centred_signs, halves-below}
 use Rattle.join.proofs.Sizes.{shift-within, root-within}
 use Rattle.join.proofs.Writing.{writes_none, writes_both, writes_as, writes_same}
 use Rattle.join.proofs.put_both.Goals as goal
+use Rattle.join.proofs.put_both.Lts as at
+use Rattle.join.proofs.put_both.Reads as reads
 
 pub root-requires : goal.root-requires
 root-requires c = wider (omega arith) c.requires.0.discriminant
 
 pub returns-in_default : goal.returns-in_default
 returns-in_default c =
-    let r = c.before.before in
+    let r = c in
     let s = r.args in
     writes_none (λ w h. subst (IsPairRoot _) c.in_default.is r.root.ensures (centre s.w0 w.v s.w2) h.middle)
 
@@ -83,7 +85,7 @@ pub difference-high-requires : goal.difference-high-requires
 difference-high-requires c = let m = c.before.before in (wider (omega arith) (δ-within (k m)), wider (omega arith) (s-within m))
 
 -- ---- with both doubles of the middle
-module _ (c : goal.After-difference-high) where
+module _ (c : at.After-difference2 reads.Pre reads.Post) where
   abbrev n : goal.After-negative
   n = c.before.before
 
@@ -123,7 +125,7 @@ put_half-next-requires c =
     (sized_by d (search rules), omega (arith, (o (j d)).requires.1))
 
 -- what was written first
-lower : (c : goal.After-put_half-next) → let d = c.before.before in let h = j d in
+lower : (c : at.After-put_half reads.Pre reads.Post) → let d = c.before.before in let h = j d in
     WritesTriples 1 (Halved (w0 h) (minus (negative (δ h)) (shift (w0 h) (w2 h))) (w2 h)) (o h).args.at (o h).args.area.now c.put_half-next.new.0 c.put_half-next.result
 lower c = let d = c.before.before in writes_same (λ i. Halved (w0 (j d)) (low-is d i) (w2 (j d))) c.put_half-next.ensures
 
@@ -143,7 +145,7 @@ returns-then-is_zero c =
 
 pub put_half-requires : goal.put_half-requires
 put_half-requires c =
-    let q = c.before.before.before.before in
+    let q = c in
     let d = q.before.before in
     let p = q.put-half in
     let l = low-within d in
@@ -152,8 +154,8 @@ put_half-requires c =
 
 pub returns : goal.returns
 returns c =
-    let p = c.before in
-    let e = p.before.before in
+    let p = c in
+    let e = p in
     let q = e.before.before.before in
     let f = q.before.before in
     let h = j f in

@@ -11,6 +11,8 @@ use Rattle.join.proofs.Centres.{other_end, ends_below}
 use Rattle.join.proofs.Sizes.{product-within}
 use Rattle.join.proofs.Writing.{writes_both, writes_same}
 use Rattle.join.proofs.put_ends.Goals as goal
+use Rattle.join.proofs.put_ends.Lts as at
+use Rattle.join.proofs.put_ends.Reads as reads
 
 pub product-requires : goal.product-requires
 product-requires c = let p = c.requires.0 in (wider (omega arith) p.first, wider (omega arith) p.last)
@@ -50,7 +52,7 @@ negative-low-requires c =
     let h = (sized c).last in
     wider {B = root_reach} (omega arith) (search rules)
 
-low-within : (c : goal.After-negative-low) → PartsWithin root_reach c.negative-low.result
+low-within : (c : at.After-negative reads.Pre reads.Post) → PartsWithin root_reach c.negative-low.result
 low-within c =
     let m = c.before in
     let g = negative-within (sized m).first in
@@ -71,11 +73,11 @@ put_both-next-requires c =
     (record { first = search rules; discriminant = d; last = search rules }, omega (arith, (s m).requires.2))
 
 -- ---- with the triples that end in −r written
-module _ (c : goal.After-put_both-next) where
+module _ (c : at.After-put_both reads.Pre reads.Post) where
   abbrev d : goal.After-difference
   d = c.before
 
-  abbrev n : goal.After-negative-low
+  abbrev n : at.After-negative reads.Pre reads.Post
   n = d.before.before
 
   abbrev m : goal.After-multiple-p
@@ -94,8 +96,8 @@ put_both-requires c =
 
 pub returns : goal.returns
 returns c =
-    let q = c.before in
-    let t = q.before in
+    let q = c in
+    let t = q in
     let b = t.before.before.before in
     let o = m b in
     let low : (d b).difference.result ≡ discriminant (f o) (times (w0 o) (negative (r o))) = (d b).difference.ensures ∙ ap (minus (f o)) (p-is o) ∙ sym (other_end (f o) (w0 o) (r o)) in

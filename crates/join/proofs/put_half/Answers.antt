@@ -25,7 +25,7 @@ over_whole-requires c = omega linear
 
 pub returns-in_default : goal.returns-in_default
 returns-in_default c =
-    let d = c.before.before in
+    let d = c in
     writes_none (λ w h. undivided_none d.args.n (pos 2) w.v (subst (IsOverWhole _ (pos 2)) c.in_default.is d.over_whole.ensures) h.middle)
 
 -- ---- with the half
@@ -51,14 +51,14 @@ has_half_steps-requires c = let p = (s c).requires.0 in record { first = p.first
 
 pub returns-then-not-has_half_steps : goal.returns-then-not-has_half_steps
 returns-then-not-has_half_steps c =
-    let t = c.before in
+    let t = c in
     let k = t.before in
     writes_none (λ w h. untold t.has_half_steps.result t.has_half_steps.ensures c.if-not-has_half_steps.true-raw (subst HalfSteps (only k w h) h.steps))
 
 pub returns : goal.returns
 returns c =
-    let p = c.before in
-    let e = p.before.before in
+    let p = c in
+    let e = p in
     let k = e.before.before in
     let a = (s k).args in
     let l = a.area.now in

@@ -25,39 +25,39 @@ erased_as s {t} l h =
 
 pub loop-at-init : goal.loop-at-init
 loop-at-init c =
-    let erase = c.before.before in
-    let start = erase.before.before.before.before in
+    let erase = c in
+    let start = erase in
     progress_none start.args.text.now erase.erase.new.0 (erased_as start.args.area.now start.requires erase.erase.ensures)
 
 pub returns-in-Refused : goal.returns-in-Refused
 returns-in-Refused c =
-    let known = c.before in
-    let call = known.before.before.before.before in
-    let read = call.before.before in
-    let find = read.before.before in
-    let l = find.before.before in
+    let known = c in
+    let call = known in
+    let read = call in
+    let find = read in
+    let l = find in
     let text = l.args.text.now in
     progress_stops text l.loop-at.area l.loop-at.stage l.loop-at.at l.loop-at.number l.loop-at.invariant find.find-end.result read.read_line-said.result.line call.take_line.new.0 find.loop-at-test.true find.find-end.ensures read.read_line-said.ensures.says (step.Refused known.in-Refused.refusal)
     (subst (Takes l.loop-at.stage read.read_line-said.result.line l.loop-at.area call.take_line.new.0) known.in-Refused.is call.take_line.ensures)
 
 pub returns-in-Wrong : goal.returns-in-Wrong
 returns-in-Wrong c =
-    let known = c.before.before in
-    let call = known.before.before.before.before in
-    let read = call.before.before in
-    let find = read.before.before in
-    let l = find.before.before in
+    let known = c in
+    let call = known in
+    let read = call in
+    let find = read in
+    let l = find in
     let text = l.args.text.now in
     progress_stops text l.loop-at.area l.loop-at.stage l.loop-at.at l.loop-at.number l.loop-at.invariant find.find-end.result read.read_line-said.result.line call.take_line.new.0 find.loop-at-test.true find.find-end.ensures read.read_line-said.ensures.says (step.Wrong known.in-Wrong.why)
     (subst (Takes l.loop-at.stage read.read_line-said.result.line l.loop-at.area call.take_line.new.0) known.in-Wrong.is call.take_line.ensures)
 
 pub loop-at-preserved : goal.loop-at-preserved
 loop-at-preserved c =
-    let known = c.before in
-    let call = known.before.before.before.before in
-    let read = call.before.before in
-    let find = read.before.before in
-    let l = find.before.before in
+    let known = c in
+    let call = known in
+    let read = call in
+    let find = read in
+    let l = find in
     let text = l.args.text.now in
     progress_one text l.loop-at.area l.loop-at.stage l.loop-at.at l.loop-at.number l.loop-at.invariant find.find-end.result read.read_line-said.result.line call.take_line.new.0 find.loop-at-test.true find.find-end.ensures read.read_line-said.ensures.says known.in-Next.next
     (subst (Takes l.loop-at.stage read.read_line-said.result.line l.loop-at.area call.take_line.new.0) known.in-Next.is call.take_line.ensures)
@@ -65,6 +65,6 @@ loop-at-preserved c =
 
 pub returns : goal.returns
 returns c =
-    let l = c.before.before.before in
+    let l = c in
     progress_all l.args.text.now l.loop-at.area l.loop-at.stage l.loop-at.at l.loop-at.number l.loop-at.invariant c.type_size.result
     (omega (arith, c.loop-at-test.false)) c.type_size.ensures

@@ -11,7 +11,7 @@ use Rattle.make_sheet.proofs.make_from.Goals as goal
 -- the sheet is a part of the area
 size_fits : (c : goal.In-Sheet) → c.in-Sheet.size ≤ length c.make.new.1.0
 size_fits c =
-    let make = c.before.before.before.before.before in
+    let make = c in
     let text = make.args.text.now in
     size-within text make.make.new.1.0 c.in-Sheet.size
     (subst (Makes text make.make.new.1.0) c.in-Sheet.is make.make.ensures)

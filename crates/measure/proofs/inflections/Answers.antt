@@ -9,9 +9,11 @@ use Rattle.verdict.specs.declared.PreimageAnswer.TheVariants.{Found}
 use Rattle.verdict.specs.Promise.{Preimaged}
 use Rattle.verdict.proofs.FoundSizes.{preimage_small}
 use Rattle.measure.proofs.inflections.Goals as goal
+use Rattle.measure.proofs.inflections.Lts as at
+use Rattle.measure.proofs.inflections.Reads as reads
 
 -- there is a pre-image
-module _ (c : goal.In-Found) where
+module _ (c : at.After-known_told reads.Pre reads.Post) where
   abbrev curve : Curve
   curve = c.args.curve
 
@@ -29,5 +31,5 @@ returns-in-Found c = let f = found c.before in (f.0, record { preimage = p c.bef
 
 pub returns-in-Refused : goal.returns-in-Refused
 returns-in-Refused c =
-    let s = c.before in
+    let s = c in
     subst (Preimaged (points_of s.args.curve)) s.in-Refused.is s.preimage_of.ensures

@@ -12,8 +12,10 @@ use Rattle.whole.specs.declared.Root.{Root}
 use Rattle.whole.proofs.Squares.{root_below}
 use Rattle.hand.proofs.Handing.{handed}
 use Rattle.number_calls.proofs.root.Goals as goal
+use Rattle.number_calls.proofs.root.Lts as at
+use Rattle.number_calls.proofs.root.Reads as reads
 
-module _ (c : goal.After-square_root-found) where
+module _ (c : at.After-square_root reads.Pre reads.Post) where
   abbrev found : Root
   found = c.square_root-found.result
 

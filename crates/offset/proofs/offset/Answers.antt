@@ -29,7 +29,7 @@ returns-in-Found c =
 
 pub returns-in-Refused : goal.returns-in-Refused
 returns-in-Refused c =
-    let k = c.before.before.before.before in
+    let k = c in
     let o = k.before.before.before in
     let refused = subst (Denominated o.args.curve o.args.h) k.in-Refused.is (rw (h-kept o) at k.denominator_of.ensures) in
     offset-refused o.args.curve o.args.h k.in-Refused.r o.args.area.now c.clear.new.0 refused c.clear.ensures

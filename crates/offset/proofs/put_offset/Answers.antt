@@ -26,7 +26,7 @@ overflow_mul-size c = omega (arith, c.points_of-points.ensures, few_points c.arg
 
 pub returns-then-area-size : goal.returns-then-area-size
 returns-then-area-size c =
-    let k = c.before.before.before in
+    let k = c in
     refused_in R.Room (inl (omega (arith, k.if-area-size.true, k.points_of-points.ensures), refl)) c.clear.ensures
 
 -- there is room
@@ -68,7 +68,7 @@ put_points-requires c =
 
 pub overflow_cast-result : goal.overflow_cast-result
 overflow_cast-result c =
-    let t = c.before.before.before.before in
+    let t = c in
     let k = t.before.before in
     omega (arith, points_are k, few_points (o k).args.curve)
 
@@ -77,7 +77,7 @@ shape_of-area c = search rules
 
 pub returns : goal.returns
 returns c =
-    let t = c.before.before.before.before in
+    let t = c in
     let k = t.before.before in
     let s = (o k).args in
     let vs = offset_numbers s.curve (offset_curve (points_of s.curve) (quartic s.w) s.h) in

@@ -5,9 +5,11 @@ use Rattle.whole.proofs.Wholes.{readℤ}
 use Rattle.whole.proofs.Bound.{Bounded, bounds, kept}
 use Rattle.pair.proofs.Parts.{operations, parts_two}
 use Rattle.pair.proofs.difference.Goals as goal
+use Rattle.pair.proofs.difference.Lts as at
+use Rattle.pair.proofs.difference.Reads as reads
 
 module _ (c : goal.After-struct_told-4-1) where
-  abbrev s : goal.Start
+  abbrev s : at.Start reads.Pre reads.Post
   s = c.before.before.before.before
 
   sizes : Bounded (2 ^ 61 ∷ 2 ^ 61 ∷ 2 ^ 61 ∷ 2 ^ 61 ∷ []) (s.args.a.re ∷ s.args.a.im ∷ s.args.b.re ∷ s.args.b.im ∷ [])

@@ -8,6 +8,8 @@ use Rattle.whole.proofs.Machine.{same_bits}
 use Rattle.pair.specs.declared.Pair.{Pair}
 use Rattle.pair.proofs.Parts.{pair-equal}
 use Rattle.pair.proofs.is_zero.Goals as goal
+use Rattle.pair.proofs.is_zero.Lts as at
+use Rattle.pair.proofs.is_zero.Reads as reads
 
 pub returns-then-x-ne0 : goal.returns-then-x-ne0
 returns-then-x-ne0 c h = c.if-x-ne0.true (ap (λ (p : Pair). of_z w64 p.re) h)
@@ -15,7 +17,7 @@ returns-then-x-ne0 c h = c.if-x-ne0.true (ap (λ (p : Pair). of_z w64 p.re) h)
 pub returns-then-y-ne0 : goal.returns-then-y-ne0
 returns-then-y-ne0 c h = c.if-y-ne0.true (ap (λ (p : Pair). of_z w64 p.im) h)
 
-module _ (c : goal.After-struct_told-2-1) where
+module _ (c : at.After-struct_told2 reads.Pre reads.Post) where
   x_fits : SFits w64 c.args.p.re
   x_fits = search rules
 

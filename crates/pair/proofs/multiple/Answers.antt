@@ -5,9 +5,11 @@ use Rattle.whole.proofs.Wholes.{readℤ}
 use Rattle.whole.proofs.Bound.{Bounded, ◌▸◌, bounds, kept}
 use Rattle.pair.proofs.Parts.{operations, parts}
 use Rattle.pair.proofs.multiple.Goals as goal
+use Rattle.pair.proofs.multiple.Lts as at
+use Rattle.pair.proofs.multiple.Reads as reads
 
 module _ (c : goal.After-struct_told-2-1) where
-  abbrev s : goal.Start
+  abbrev s : at.Start reads.Pre reads.Post
   s = c.before.before
 
   sizes : Bounded (2 ^ 30 ∷ 2 ^ 30 ∷ 2 ^ 30 ∷ []) (s.args.k ∷ s.args.a.re ∷ s.args.a.im ∷ [])

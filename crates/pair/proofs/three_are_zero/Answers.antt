@@ -12,8 +12,8 @@ returns-then-not-is_zero-2 c h = untold c.is_zero-2.result c.is_zero-2.ensures c
 
 pub returns : goal.returns
 returns c =
-    let second = c.before in
-    let first = second.before.before in
+    let second = c in
+    let first = second in
     let a = told first.is_zero.result first.is_zero.ensures first.if-not-is_zero.false-raw in
     let b = told second.is_zero-2.result second.is_zero-2.ensures second.if-not-is_zero-2.false-raw in
     told-map (λ e. three-none a b e) (λ h. h 2) c.is_zero-3.result c.is_zero-3.ensures

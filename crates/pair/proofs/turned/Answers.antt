@@ -7,9 +7,11 @@ use Rattle.whole.proofs.Wholes.{readℤ}
 use Rattle.whole.proofs.Bound.{Bounded, bounds, kept}
 use Rattle.pair.proofs.Parts.{operations, parts, turned_parts}
 use Rattle.pair.proofs.turned.Goals as goal
+use Rattle.pair.proofs.turned.Lts as at
+use Rattle.pair.proofs.turned.Reads as reads
 
 module _ (c : goal.After-struct_told-2-1) where
-  abbrev s : goal.Start
+  abbrev s : at.Start reads.Pre reads.Post
   s = c.before.before
 
   sizes : Bounded (2 ^ 61 ∷ 2 ^ 61 ∷ []) (s.args.a.re ∷ s.args.a.im ∷ [])

@@ -15,21 +15,21 @@ returns-then-not-is_reached c = asks_none (untold c.is_reached.result c.is_reach
 
 pub returns-then-state-eq0 : goal.returns-then-state-eq0
 returns-then-state-eq0 c =
-    let k = c.before.before in
-    let r = k.before in
+    let k = c in
+    let r = k in
     let w = open_of r.args.state (told r.is_reached.result r.is_reached.ensures k.if-not-is_reached.false-raw) (λ e. omega (arith, c.if-state-eq0.true)) in
     not_ended w.0 w.1
 
 pub answer-requires : goal.answer-requires
 answer-requires c =
-    let k = c.before.before in
-    let r = k.before in
+    let k = c in
+    let r = k in
     reached_possible r.args.state (told r.is_reached.result r.is_reached.ensures k.if-not-is_reached.false-raw)
 
 pub returns : goal.returns
 returns c =
-    let k = c.before.before.before in
-    let r = k.before in
+    let k = c in
+    let r = k in
     let st = r.args.state in
     let w = ended_of st (told r.is_reached.result r.is_reached.ensures k.if-not-is_reached.false-raw) c.if-state-eq0.false in
     checked w.0 c.answer.result w.1 (subst (Checks w.0) (sym c.answer.ensures) (answer-is st w.0 true w.1))

@@ -11,7 +11,7 @@ returns-then-not-is_reached c = ends_none (untold c.is_reached.result c.is_reach
 
 pub returns : goal.returns
 returns c =
-    let r = c.before.before in
+    let r = c in
     let st = r.args.state in
     let w = told r.is_reached.result r.is_reached.ensures c.if-not-is_reached.false-raw in
     subst (EndsSheet st) (sym (ended_is st w.0 w.1 w.2)) (ends w.0 w.1 w.2)

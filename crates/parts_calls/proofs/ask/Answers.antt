@@ -20,8 +20,8 @@ told_code-requires c = countable _ c.ask.result c.ask.ensures
 
 pub returns : goal.returns
 returns c =
-    let asked = c.before in
-    let read = asked.before in
+    let asked = c in
+    let read = asked in
     inr (
       omega (arith, read.if-state-lt-NUMBERS.false),
       (asked.ask.result, subst (λ (st : State). Asks st asked.ask.result) read.state_in.ensures asked.ask.ensures, settled c.told_code.type-inv c.told_code.ensures),

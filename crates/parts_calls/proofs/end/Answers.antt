@@ -18,13 +18,13 @@ pub returns-then-state-lt-NUMBERS : goal.returns-then-state-lt-NUMBERS
 returns-then-state-lt-NUMBERS c = inl (omega (arith, c.if-state-lt-NUMBERS.true), settled c.coded.type-inv (c.coded.ensures ∙ ap (λ (f : Fault). code_of (refused f)) c.nowhere.ensures), refl)
 
 -- the state in the area, ended
-ended_is : (c : goal.After-end-ended) → let s = c.before.before.before.before in EndsSheet (state_in s.args.state.now) c.end-ended.result
+ended_is : (c : goal.After-end-ended) → let s = c in EndsSheet (state_in s.args.state.now) c.end-ended.result
 ended_is c = subst (λ (st : State). EndsSheet st c.end-ended.result) c.state_in.ensures c.end-ended.ensures
 
 pub returns-in-Refused : goal.returns-in-Refused
 returns-in-Refused c =
-    let told = c.before.before.before in
-    let asked = told.before.before in
+    let told = c in
+    let asked = told in
     let ended = asked.before in
     let none = told.in-Refused.is in
     let before = ended.args.state.now in
@@ -41,13 +41,13 @@ returns-in-Refused c =
     )
 
 pub told_code-requires : goal.told_code-requires
-told_code-requires c = let asked = c.before.before.before.before in countable _ asked.ask-told.result asked.ask-told.ensures
+told_code-requires c = let asked = c in countable _ asked.ask-told.result asked.ask-told.ensures
 
 pub returns : goal.returns
 returns c =
-    let left = c.before.before in
-    let match = left.before.before in
-    let asked = match.before in
+    let left = c in
+    let match = left in
+    let asked = match in
     let ended = asked.before in
     let before = ended.args.state.now in
     inr (

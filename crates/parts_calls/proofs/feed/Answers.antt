@@ -12,19 +12,21 @@ use Rattle.hand.specs.Promise.{coded as code_of}
 use Rattle.parts_calls.specs.Numbers.{state_in}
 use Rattle.parts_calls.specs.Promise.{change_code, fed_area}
 use Rattle.parts_calls.proofs.feed.Goals as goal
+use Rattle.parts_calls.proofs.feed.Lts as at
+use Rattle.parts_calls.proofs.feed.Reads as reads
 
 pub returns-then-state-lt-NUMBERS : goal.returns-then-state-lt-NUMBERS
 returns-then-state-lt-NUMBERS c = inl (omega (arith, c.if-state-lt-NUMBERS.true), settled c.coded.type-inv (c.coded.ensures ∙ ap (λ (f : Fault). code_of (refused f)) c.nowhere.ensures), refl)
 
 -- what the library answers for the state in the area
-fed_is : (c : goal.After-feed-fed) → let s = c.before.before.before.before.before in Feeds (state_in s.args.state.now) s.args.part.now c.feed-fed.result
+fed_is : (c : at.After-feed reads.Pre reads.Post) → let s = c.before.before.before.before.before in Feeds (state_in s.args.state.now) s.args.part.now c.feed-fed.result
 fed_is c =
     let s = c.before.before.before.before.before in
     subst (λ (st : State). Feeds st s.args.part.now c.feed-fed.result) c.state_in.ensures c.feed-fed.ensures
 
 pub returns-in-Done : goal.returns-in-Done
 returns-in-Done c =
-    let told = c.before.before.before.before in
+    let told = c in
     let fed = told.before.before in
     let x = fed.feed-fed.result in
     let done = told.in-Done.is in
@@ -36,7 +38,7 @@ returns-in-Done c =
 
 pub returns-in-Refused : goal.returns-in-Refused
 returns-in-Refused c =
-    let told = c.before.before in
+    let told = c in
     let fed = told.before.before in
     let x = fed.feed-fed.result in
     let not_done = told.in-Refused.is in

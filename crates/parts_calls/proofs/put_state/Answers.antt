@@ -14,20 +14,20 @@ seven c = search rules
 
 pub returns : goal.returns
 returns c =
-    let put = c.before in
-    let c13 = put.before.before.before in
-    let c12 = c13.before in
-    let c11 = c12.before in
-    let c10 = c11.before in
-    let c9 = c10.before in
-    let c8 = c9.before in
-    let c7 = c8.before in
-    let c6 = c7.before in
-    let c5 = c6.before in
-    let c4 = c5.before in
-    let c3 = c4.before in
-    let c2 = c3.before in
-    let c1 = c2.before in
+    let put = c in
+    let c13 = put in
+    let c12 = c13 in
+    let c11 = c12 in
+    let c10 = c11 in
+    let c9 = c10 in
+    let c8 = c9 in
+    let c7 = c8 in
+    let c6 = c7 in
+    let c5 = c6 in
+    let c4 = c5 in
+    let c3 = c4 in
+    let c2 = c3 in
+    let c1 = c2 in
     let s = c1.args in
     let words = s.state.words in
     put.put.ensures

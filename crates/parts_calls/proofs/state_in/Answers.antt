@@ -8,18 +8,18 @@ use Rattle.parts_calls.proofs.state_in.Goals as goal
 
 pub returns : goal.returns
 returns c =
-    let c12 = c.before.before in
-    let c11 = c12.before.before in
-    let c10 = c11.before.before in
-    let c9 = c10.before.before in
-    let c8 = c9.before.before in
-    let c7 = c8.before.before in
-    let c6 = c7.before.before in
-    let c5 = c6.before.before in
-    let c4 = c5.before.before in
-    let c3 = c4.before.before in
-    let c2 = c3.before.before in
-    let c1 = c2.before.before in
+    let c12 = c in
+    let c11 = c12 in
+    let c10 = c11 in
+    let c9 = c10 in
+    let c8 = c9 in
+    let c7 = c8 in
+    let c6 = c7 in
+    let c5 = c6 in
+    let c4 = c5 in
+    let c3 = c4 in
+    let c2 = c3 in
+    let c1 = c2 in
     let area = c1.args.area.now in
     λ i. record {
       ended = unsigned-read (get_or area 0 (pos 0)) c8.unsigned-arg-8-1.given c8.unsigned-8.ensures i;

@@ -8,7 +8,7 @@ use Rattle.report.proofs.report_of.Goals as goal
 
 pub returns-in-Written : goal.returns-in-Written
 returns-in-Written c =
-    let wrote = c.before.before.before.before.before in
+    let wrote = c in
     let s = wrote.args in
     let t = wrote.write_report.new.1.0 in
     written_is s.text.now t c.in-Written.end
@@ -16,8 +16,8 @@ returns-in-Written c =
 
 pub returns-in-Refused : goal.returns-in-Refused
 returns-in-Refused c =
-    let wrote = c.before.before.before.before in
-    let s = wrote.before.before.before.before in
+    let wrote = c in
+    let s = wrote in
     let t = wrote.write_report.new.1.0 in
     absurd
     (room-enough s.args.sheet.now wrote.shared_slice_known-1.given s.args.text.now t c.in-Refused.field-0 s.requires

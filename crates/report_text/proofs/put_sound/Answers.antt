@@ -14,15 +14,15 @@ use Rattle.report_text.proofs.put_sound.Goals as goal
 
 pub put_lines-requires : goal.put_lines-requires
 put_lines-requires c =
-    let first = c.before.before.before in
-    let start = first.before.before.before.before in
+    let first = c in
+    let start = first in
     sym (with_twice told_of (λ (told : Mission × ℕ). told.1) (outcome start.args.sheet.now)) ∙ ap (with_given (λ (told : Mission × ℕ). told.1)) start.requires
 
 pub returns : goal.returns
 returns c =
-    let lines = c.before.before in
-    let first = lines.before.before.before.before in
-    let start = first.before.before.before.before in
+    let lines = c in
+    let first = lines in
+    let start = first in
     let w = lines.put_lines.ensures in
     record {
       text = first_line start.args.mission start.args.count ++ w.lines;

@@ -5,7 +5,7 @@ use Rattle.report_text.proofs.write_report.Goals as goal
 
 pub returns : goal.returns
 returns c =
-    let end = c.before.before in
-    let put = end.before.before.before.before in
+    let end = c in
+    let put = end in
     let w = put.put_report-end.ensures in
     text_in w.text w.of_sheet put.put_report-end.auto.0 w.writes end.ended.ensures

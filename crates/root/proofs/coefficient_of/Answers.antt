@@ -8,18 +8,20 @@ use mir.Val.{to_z, of_z}
 use mir.ValLaws.{to_z-of_z}
 use Rattle.whole.specs.Promise.{IsQuotient}
 use Rattle.root.proofs.coefficient_of.Goals as goal
+use Rattle.root.proofs.coefficient_of.Lts as at
+use Rattle.root.proofs.coefficient_of.Reads as reads
 
 pub quotient-requires : goal.quotient-requires
 quotient-requires c = simp (to_z-of_z, c.ranges.n, c.ranges.t) c.requires
 
-answer : (c : goal.After-quotient) → IsQuotient c.args.n c.args.t c.quotient.result
+answer : (c : at.After-quotient reads.Pre reads.Post) → IsQuotient c.args.n c.args.t c.quotient.result
 answer c = simp (to_z-of_z, c.ranges.n, c.ranges.t) at c.quotient.ensures
 
 pub returns-in_default : goal.returns-in_default
 returns-in_default c = subst (IsQuotient _ _) c.in_default.is (answer c.before.before)
 
 -- the quotient and its size
-module _ (c : goal.After-size) where
+module _ (c : at.After-size reads.Pre reads.Post) where
   abbrev o : goal.Start
   o = c.before.before.before.before.before
 

@@ -16,8 +16,10 @@ use Rattle.whole.proofs.Machine.{cast_asks}
 use Rattle.whole.proofs.Order.{nonneg_is, nonneg_square}
 use Rattle.whole.proofs.Squares.{root_below, no_end, no_root}
 use Rattle.root.proofs.lead_of.Goals as goal
+use Rattle.root.proofs.lead_of.Lts as at
+use Rattle.root.proofs.lead_of.Reads as reads
 
-m-is : (c : goal.Start) → to_z w64 (of_z w64 c.args.m) ≡ c.args.m
+m-is : (c : at.Start reads.Pre reads.Post) → to_z w64 (of_z w64 c.args.m) ≡ c.args.m
 m-is c = to_z-of_z w64 c.args.m c.ranges.m
 
 pub returns-then-m-lt0 : goal.returns-then-m-lt0
@@ -30,19 +32,19 @@ pub overflow_cast-n : goal.overflow_cast-n
 overflow_cast-n c = let f = c.ranges.m in rw (m-is c.before) (cast_asks (nonneg c) f)
 
 -- a root of m is one of the machine's number
-squared : (c : goal.Start) (s : ℤ) → s *ℤ s ≡ c.args.m → nat_abs s * nat_abs s ≡ nat_abs (to_z w64 (of_z w64 c.args.m))
+squared : (c : at.Start reads.Pre reads.Post) (s : ℤ) → s *ℤ s ≡ c.args.m → nat_abs s * nat_abs s ≡ nat_abs (to_z w64 (of_z w64 c.args.m))
 squared c s e = sym (abs_times s s) ∙ ap nat_abs (e ∙ sym (m-is c))
 
 pub returns-then-not-ends_as_a_square : goal.returns-then-not-ends_as_a_square
 returns-then-not-ends_as_a_square c s e =
-    let t = c.before in
+    let t = c in
     no_end (untold t.ends_as_a_square.result t.ends_as_a_square.ensures c.if-not-ends_as_a_square.true-raw) (nat_abs s) (squared t.before.before s e)
 
 pub returns-then-s-ne0 : goal.returns-then-s-ne0
-returns-then-s-ne0 c s e = let t = c.before.before in no_root t.square_root-s.ensures (λ none. omega (arith, c.if-s-ne0.true, none)) (nat_abs s) (squared t.before.before.before.before s e)
+returns-then-s-ne0 c s e = let t = c in no_root t.square_root-s.ensures (λ none. omega (arith, c.if-s-ne0.true, none)) (nat_abs s) (squared t.before.before.before.before s e)
 
-module _ (c : goal.After-square_root-s) where
-  abbrev start : goal.Start
+module _ (c : at.After-square_root reads.Pre reads.Post) where
+  abbrev start : at.Start reads.Pre reads.Post
   start = c.before.before.before.before
 
   abbrev root : ℕ

@@ -12,6 +12,8 @@ use Rattle.whole.proofs.Machine.{same_bits}
 use Rattle.root.specs.Search.{SameBelow}
 use Rattle.root.specs.Promise.{octic}
 use Rattle.root.proofs.same_below.Goals as goal
+use Rattle.root.proofs.same_below.Lts as at
+use Rattle.root.proofs.same_below.Reads as reads
 
 pub returns-then-a-b : goal.returns-then-a-b
 returns-then-a-b c h = c.if-a-b.true (ap (of_z w64) (h 3 (lit< tt)))
@@ -26,10 +28,10 @@ pub returns-then-a-b-4 : goal.returns-then-a-b-4
 returns-then-a-b-4 c h = c.if-a-b-4.true (ap (of_z w64) (h 0 (lit< tt)))
 
 -- the four tests together
-abbrev Bits : goal.Start → ℕ → Type 0
+abbrev Bits : (at.Start reads.Pre reads.Post) → ℕ → Type 0
 Bits s k = of_z w64 (at wholes (octic s.args.a) k) ≡ of_z w64 (at wholes (octic s.args.b) k)
 
-from_bits : (s : goal.Start) → Bits s 0 → Bits s 1 → Bits s 2 → Bits s 3 → SameBelow wholes 4 (octic s.args.a) (octic s.args.b)
+from_bits : (s : at.Start reads.Pre reads.Post) → Bits s 0 → Bits s 1 → Bits s 2 → Bits s 3 → SameBelow wholes 4 (octic s.args.a) (octic s.args.b)
 from_bits s e0 e1 e2 e3 zero l = same_bits (search rules) (search rules) e0
 from_bits s e0 e1 e2 e3 (suc zero) l = same_bits (search rules) (search rules) e1
 from_bits s e0 e1 e2 e3 (suc (suc zero)) l = same_bits (search rules) (search rules) e2
@@ -38,7 +40,7 @@ from_bits s e0 e1 e2 e3 (suc (suc (suc (suc k)))) l = absurd (omega arith)
 
 pub returns : goal.returns
 returns c =
-    let p3 = c.before.before.before.before.before in
-    let p2 = p3.before.before.before.before.before in
-    let p1 = p2.before.before.before.before.before in
+    let p3 = c in
+    let p2 = p3 in
+    let p1 = p2 in
     from_bits p1.before.before.before.before.before c.if-a-b-4.false p3.if-a-b-3.false p2.if-a-b-2.false p1.if-a-b.false

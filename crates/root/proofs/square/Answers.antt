@@ -7,9 +7,11 @@ use Rattle.root.specs.declared.Quartic.{Quartic}
 use Rattle.root.specs.Promise.{IsSquare, root_size}
 use Rattle.root.proofs.Squared.{square_is}
 use Rattle.root.proofs.square.Goals as goal
+use Rattle.root.proofs.square.Lts as at
+use Rattle.root.proofs.square.Reads as reads
 
 module _ (c : goal.After-struct_told-5-1) where
-  abbrev o : goal.Start
+  abbrev o : at.Start reads.Pre reads.Post
   o = c.before.before.before.before.before
 
   abbrev q : Quartic

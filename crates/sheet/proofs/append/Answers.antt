@@ -17,13 +17,15 @@ use Rattle.sheet.proofs.Missions.{mission-at}
 use Rattle.sheet.proofs.Changed.{append-none, append_done, append-refused}
 use Rattle.sheet.proofs.Appended.{append-kept_as, append_fault, append-sound}
 use Rattle.sheet.proofs.append.Goals as goal
+use Rattle.sheet.proofs.append.Lts as at
+use Rattle.sheet.proofs.append.Reads as reads
 
 -- what is known of a sound sheet
-module _ (c : goal.In-Sound) where
-  abbrev walked : goal.After-walk-w
+module _ (c : at.After-enum_told reads.Pre reads.Post) where
+  abbrev walked : at.After-walk reads.Pre reads.Post
   walked = c.before.before
 
-  abbrev start : goal.Start
+  abbrev start : at.Start reads.Pre reads.Post
   start = walked.before.before.before
 
   abbrev sheet : List ℕ
@@ -51,8 +53,8 @@ returns-then-w-eq0 c =
     (append-none (sheet told) (curve told) (sound told) ((mission-at (sheet told)).none (sym (end_is told) ∙ c.if-w-eq0.true)) c.nowhere.ensures)
 
 -- what was put at the end of the records of a mission's sheet
-module _ (c : goal.After-put_curve) where
-  abbrev told : goal.In-Sound
+module _ (c : at.After-put_curve reads.Pre reads.Post) where
+  abbrev told : at.After-enum_told reads.Pre reads.Post
   told = c.before.before.before.before
 
   own : mission_of (survey (sheet told)).records ≡ mission.Number (mission_in (sheet told))
@@ -72,7 +74,7 @@ returns-in-Done c =
 
 pub returns-in-Refused : goal.returns-in-Refused
 returns-in-Refused c =
-    let refused = c.before.before in
+    let refused = c in
     let put = refused.before.before.before.before in
     let s = told put in
     append-sound (sheet s) (curve s) (sound s) (own put) (fits s)
@@ -80,6 +82,6 @@ returns-in-Refused c =
 
 pub returns-in-Faulty : goal.returns-in-Faulty
 returns-in-Faulty c =
-    let walked = c.before.before.before in
-    let start = walked.before.before.before in
+    let walked = c in
+    let start = walked in
     append_fault start.args.sheet.now start.args.curve (sym walked.walk-w.ensures.ending_is ∙ c.in-Faulty.is)

@@ -7,4 +7,4 @@ pub returns-then-sheet-gt-LONGEST : goal.returns-then-sheet-gt-LONGEST
 returns-then-sheet-gt-LONGEST c = erase-long _ c.if-sheet-gt-LONGEST.true c.nowhere.ensures
 
 pub returns : goal.returns
-returns c = let erased = c.before.before in erase_short _ erased.if-sheet-gt-LONGEST.false erased.erase_all.ensures
+returns c = let erased = c in erase_short _ erased.if-sheet-gt-LONGEST.false erased.erase_all.ensures

@@ -8,10 +8,12 @@ use Rattle.sheet.specs.declared.Location.TheVariants as location
 use Rattle.sheet.specs.Promise.{Locates}
 use Rattle.sheet.proofs.Told.{refused-found, located_found}
 use Rattle.sheet.proofs.find.Goals as goal
+use Rattle.sheet.proofs.find.Lts as at
+use Rattle.sheet.proofs.find.Reads as reads
 
 -- where the record stands
 module _ (c : goal.In-At) where
-  abbrev start : goal.Start
+  abbrev start : at.Start reads.Pre reads.Post
   start = c.before.before.before.before.before
 
   abbrev place : ℕ
@@ -39,6 +41,6 @@ returns-in-At c =
 
 pub returns-in-Refused : goal.returns-in-Refused
 returns-in-Refused c =
-    let s = c.before.before.before.before.before in
+    let s = c in
     let h = refused-found _ _ _ (subst (Locates s.args.sheet.now s.args.mission s.args.number) c.in-Refused.is c.locate.ensures) in
     record { bytes = h.0; block = refl; place = omega (arith, h.1) }

@@ -5,19 +5,21 @@ use mathlib.Core.Bool.{Bool}
 use Rattle.sheet.specs.Survey.{survey, mission_of, is_other}
 use Rattle.sheet.proofs.Told.{forward, other_located, none_located, one_located, located_faulty}
 use Rattle.sheet.proofs.locate.Goals as goal
+use Rattle.sheet.proofs.locate.Lts as at
+use Rattle.sheet.proofs.locate.Reads as reads
 
 pub mission_of-requires : goal.mission_of-requires
 mission_of-requires c = c.walk-w.ensures.end_is
 
 -- what is known of a sound sheet, and whether its mission is another
-module _ (c : goal.After-is_other-other) where
+module _ (c : at.After-is_other reads.Pre reads.Post) where
   abbrev told : goal.In-Sound
   told = c.before.before
 
-  abbrev walked : goal.After-walk-w
+  abbrev walked : at.After-walk reads.Pre reads.Post
   walked = told.before.before
 
-  abbrev start : goal.Start
+  abbrev start : at.Start reads.Pre reads.Post
   start = walked.before.before
 
   other_is : {b : Bool} → c.is_other-other.result ≡ b → is_other start.args.mission (mission_of (survey start.args.sheet.now).records) ≡ b
@@ -30,7 +32,7 @@ returns-then-other c =
 
 pub returns-then-place-to : goal.returns-then-place-to
 returns-then-place-to c =
-    let tested = c.before in
+    let tested = c in
     let asked = tested.before.before in
     none_located (walked asked).walk-w.ensures _ (told asked).in-Sound.is (other_is asked tested.if-other.false) tested.if-place-to.true c.nowhere-then-place-to.ensures
 

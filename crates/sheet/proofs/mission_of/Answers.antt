@@ -5,12 +5,12 @@ use Rattle.sheet.proofs.Missions.{mission-at}
 use Rattle.sheet.proofs.mission_of.Goals as goal
 
 pub returns-then-end-eq0 : goal.returns-then-end-eq0
-returns-then-end-eq0 c = let start = c.before.before in sym ((mission-at start.args.sheet.now).none (sym start.requires ∙ c.if-end-eq0.true))
+returns-then-end-eq0 c = let start = c in sym ((mission-at start.args.sheet.now).none (sym start.requires ∙ c.if-end-eq0.true))
 
 pub mission_in-requires : goal.mission_in-requires
-mission_in-requires c = let start = c.before.before in ((mission-at start.args.sheet.now).some (λ z. c.if-end-eq0.false (start.requires ∙ z))).0
+mission_in-requires c = let start = c in ((mission-at start.args.sheet.now).some (λ z. c.if-end-eq0.false (start.requires ∙ z))).0
 
 pub returns : goal.returns
 returns c =
-    let start = c.before.before.before in
+    let start = c in
     ap mission.Number c.mission_in.ensures ∙ sym ((mission-at start.args.sheet.now).some (λ z. c.if-end-eq0.false (start.requires ∙ z))).1

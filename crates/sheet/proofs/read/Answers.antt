@@ -13,10 +13,12 @@ use Rattle.sheet.proofs.Passed.{rest-is}
 use Rattle.sheet.proofs.Places.{Stands, fits, held-curve, held-nothing}
 use Rattle.sheet.proofs.Told.{located, located_read, refused-read}
 use Rattle.sheet.proofs.read.Goals as goal
+use Rattle.sheet.proofs.read.Lts as at
+use Rattle.sheet.proofs.read.Reads as reads
 
 -- where the record stands
 module _ (c : goal.In-At) where
-  abbrev start : goal.Start
+  abbrev start : at.Start reads.Pre reads.Post
   start = let located = c.before.before.before in located.before.before
 
   abbrev place : ℕ
@@ -35,7 +37,7 @@ pub slice_bounds-held_curve-count : goal.slice_bounds-held_curve-count
 slice_bounds-held_curve-count c = omega (arith, fits (here c))
 
 -- what the bytes there hold
-held_there : (c : goal.After-held_curve) {x : Held} → c.held_curve.result ≡ x → let at = c.before.before in IsHeld (drop (place at) (start at).args.sheet.now) x
+held_there : (c : at.After-held_curve reads.Pre reads.Post) {x : Held} → c.held_curve.result ≡ x → let at = c.before.before in IsHeld (drop (place at) (start at).args.sheet.now) x
 held_there c {x} e =
     let at = c.before.before in
     subst (λ (h : Held). IsHeld (drop (place at) (start at).args.sheet.now) h) e
@@ -54,6 +56,6 @@ returns-in-None c =
 
 pub returns-in-Refused : goal.returns-in-Refused
 returns-in-Refused c =
-    let located = c.before.before.before in
-    let start = located.before.before in
+    let located = c in
+    let start = located in
     refused-read _ _ _ (subst (Locates start.args.sheet.now start.args.mission start.args.number) c.in-Refused.is located.locate.ensures)

@@ -12,6 +12,8 @@ use Rattle.record.specs.Kinds.{row_of}
 use Rattle.record.specs.Records.{erased}
 use Rattle.sheet.proofs.Changed.{start-long, start_narrow, start_done}
 use Rattle.sheet.proofs.start.Goals as goal
+use Rattle.sheet.proofs.start.Lts as at
+use Rattle.sheet.proofs.start.Reads as reads
 
 drop-erased : (k n : ℕ) → drop k (replicate n erased) ≡ replicate (n - k) erased
 drop-erased zero n = let z : n ≡ n - 0 = omega arith in ap (λ (m : ℕ). replicate m erased) z
@@ -22,16 +24,16 @@ pub returns-then-sheet-gt-LONGEST : goal.returns-then-sheet-gt-LONGEST
 returns-then-sheet-gt-LONGEST c = start-long _ _ c.if-sheet-gt-LONGEST.true c.nowhere.ensures
 
 -- how long a header is
-size_is : (c : goal.After-row_of-size) → c.row_of-size.result.size ≡ (row_of Header).size
+size_is : (c : at.After-row_of reads.Pre reads.Post) → c.row_of-size.result.size ≡ (row_of Header).size
 size_is c = ap (λ (r : Row). r.size) c.row_of-size.ensures
 
 pub returns-then-sheet-size : goal.returns-then-sheet-size
 returns-then-sheet-size c =
-    let tested = c.before in
+    let tested = c in
     start_narrow _ _ tested.if-sheet-gt-LONGEST.false (omega (arith, tested.if-sheet-size.true, size_is tested.before)) c.nowhere-then-sheet-size.ensures
 
 -- the header fits into what was erased
-fits_now : (c : goal.After-erase_all) → c.row_of-size.result.size ≤ length c.erase_all.new.0
+fits_now : (c : at.After-erase_all reads.Pre reads.Post) → c.row_of-size.result.size ≤ length c.erase_all.new.0
 fits_now c =
     omega (arith, c.if-sheet-size.false, ap length c.erase_all.ensures, length-replicate {A = ℕ} (length c.args.sheet.now) erased)
 
@@ -43,11 +45,11 @@ put_header-requires c = let erased = c.before.before.before in length-take-le _ 
 
 pub returns : goal.returns
 returns c =
-    let put = c.before.before in
+    let put = c in
     let erased-all = put.before.before.before.before in
     let tested = erased-all.before.before in
     let row = tested.before in
-    let start = row.before.before.before in
+    let start = row in
     let n = length start.args.sheet.now in
     let behind : drop row.row_of-size.result.size erased-all.erase_all.new.0 ≡ replicate (n - (row_of Header).size) erased =
     (λ i. drop (size_is row i) (erased-all.erase_all.ensures i)) ∙ drop-erased (row_of Header).size n

@@ -24,6 +24,6 @@ returns-in-Sheet c =
 
 pub returns-in-Refused : goal.returns-in-Refused
 returns-in-Refused c =
-    let k = c.before.before in
-    let m = k.before.before in
+    let k = c in
+    let m = k in
     settled c.coded.type-inv (c.coded.ensures ∙ ap code_of (count_checked _ (checked.Refused _) (subst (Checks m.args.s.now) k.in-Refused.is m.check.ensures)))

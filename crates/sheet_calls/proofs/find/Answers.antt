@@ -49,8 +49,8 @@ returns-in-At c =
 
 pub returns-in-Refused : goal.returns-in-Refused
 returns-in-Refused c =
-    let k = c.before.before.before.before in
-    let m = k.before.before in
+    let k = c in
+    let m = k in
     let s = m.args in
     let is = subst (Locates s.s.now s.mission s.number) k.in-Refused.is m.locate.ensures in
     hands_same (ap (with_given (map pos)) is ∙ with_twice place_of (map pos) (chosen s.mission s.number s.s.now))

@@ -11,8 +11,8 @@ use Rattle.sheet_calls.proofs.read.Goals as goal
 
 pub returns-in-Points : goal.returns-in-Points
 returns-in-Points c =
-    let k = c.before.before.before.before in
-    let m = k.before.before in
+    let k = c in
+    let m = k in
     let s = m.args in
     let is = subst (Reads s.s.now s.mission s.number) k.in-Points.is m.read.ensures in
     hands_same (ap (with_given numbers_of) is ∙ with_twice points_of_entry numbers_of (chosen s.mission s.number s.s.now))
@@ -20,8 +20,8 @@ returns-in-Points c =
 
 pub returns-in-Refused : goal.returns-in-Refused
 returns-in-Refused c =
-    let k = c.before.before.before.before in
-    let m = k.before.before in
+    let k = c in
+    let m = k in
     let s = m.args in
     let is = subst (Reads s.s.now s.mission s.number) k.in-Refused.is m.read.ensures in
     hands_same (ap (with_given numbers_of) is ∙ with_twice points_of_entry numbers_of (chosen s.mission s.number s.s.now))

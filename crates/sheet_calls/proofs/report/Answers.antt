@@ -13,10 +13,12 @@ use Rattle.report_text.specs.Promise.{Reported}
 use Rattle.report_text.proofs.Short.{written_short}
 use Rattle.hand.specs.Promise.{coded as code_of}
 use Rattle.sheet_calls.proofs.report.Goals as goal
+use Rattle.sheet_calls.proofs.report.Lts as at
+use Rattle.sheet_calls.proofs.report.Reads as reads
 
 -- what the report says, where it is written
 module _ (c : goal.In-Written) where
-  abbrev from : goal.After-write_report
+  abbrev from : at.After-write_report reads.Pre reads.Post
   from = c.before.before.before.before.before
 
   done : Reported from.args.s.now from.args.text.now from.write-report.last.1.0 (text.Written c.in-Written.n)
@@ -35,8 +37,8 @@ returns-in-Written c = (text.Written c.in-Written.n, done c, to_z_pos w64 c.in-W
 
 pub returns-in-Refused : goal.returns-in-Refused
 returns-in-Refused c =
-    let k = c.before.before.before in
-    let w = k.before.before.before.before in
+    let k = c in
+    let w = k in
     let s = w.args in (
       text.Refused k.in-Refused.r,
       subst (Reported s.s.now s.text.now w.write_report.new.1.0) k.in-Refused.is w.write_report.ensures,

@@ -9,16 +9,18 @@ use lib.ListN.{length}
 use Rattle.text.specs.Steps.{HoldsText}
 use Rattle.text.proofs.Held.{ends_written, ends_full}
 use Rattle.text.proofs.ended.Goals as goal
+use Rattle.text.proofs.ended.Lts as at
+use Rattle.text.proofs.ended.Reads as reads
 
 pub returns-then-end-area : goal.returns-then-end-area
 returns-then-end-area c =
-    let tested = c.before.before.before.before in
-    let found = tested.before.before in
+    let tested = c in
+    let found = tested in
     let area = found.args.area.now in
     ends_written area found.in-At.end found.in-At.is c.clear.ensures
 
 -- no text is held up to this place, or it did not fit
-too_long : (c : goal.Joined-place) → let a = c.args in (text : List ℕ) → HoldsText a.area.now text a.place → length a.area.now < length text
+too_long : (c : at.At-match-branch reads.Pre reads.Post) → let a = c.args in (text : List ℕ) → HoldsText a.area.now text a.place → length a.area.now < length text
 too_long c text h =
     let area = c.args.area.now in
     ⊎_elim
@@ -28,6 +30,6 @@ too_long c text h =
 
 pub returns : goal.returns
 returns c =
-    let cleared = c.before.before in
+    let cleared = c in
     let joined = cleared.before.before in
     ends_full joined.args.area.now joined.args.place (too_long joined) cleared.clear-2.ensures

@@ -21,8 +21,8 @@ loop-i-init c = (omega arith, omega arith, refl, sym (append-nil _))
 
 pub returns-then-at-area : goal.returns-then-at-area
 returns-then-at-area c =
-    let turn = c.before.before in
-    let known = turn.before.before in
+    let turn = c in
+    let known = turn in
     let s = known.args in
     let l = turn.loop in
     subst (λ (p : Place). Writes s.area.now p s.text.now l.area Full) (sym known.in-At.is)
@@ -30,8 +30,8 @@ returns-then-at-area c =
 
 pub loop-i-preserved : goal.loop-i-preserved
 loop-i-preserved c =
-    let turn = c.before.before.before in
-    let known = turn.before.before in
+    let turn = c in
+    let known = turn in
     let s = known.args in
     let l = turn.loop in
     let start = known.in-At.start in (

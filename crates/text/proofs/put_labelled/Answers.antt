@@ -4,4 +4,4 @@ use Rattle.text.proofs.Pieces.{◌then◌}
 use Rattle.text.proofs.put_labelled.Goals as goal
 
 pub returns : goal.returns
-returns c = let number = c.before.before in number.put-number.ensures then number.put_number.ensures
+returns c = let number = c in number.put-number.ensures then number.put_number.ensures

@@ -9,8 +9,8 @@ use Rattle.text.proofs.put_number.Goals as goal
 
 pub returns : goal.returns
 returns c =
-    let put = c.before.before in
-    let made = put.before.before.before in
+    let put = c in
+    let made = put in
     let d = made.decimal in
     let s = made.args in
     subst

@@ -8,14 +8,14 @@ use Rattle.text.proofs.put_sign.Goals as goal
 
 pub returns-then-x-lt0 : goal.returns-then-x-lt0
 returns-then-x-lt0 c =
-    let put = c.before.before in
-    let tested = put.before.before.before in
-    let start = tested.before.before in
+    let put = c in
+    let tested = put in
+    let start = tested in
     let e = to_z-of_z w64 start.args.x start.ranges.x in
     writes_same (sign_below start.args.x (omega (linear, tested.if-x-lt0.true))) put.put.ensures
 
 pub returns-else-x-lt0 : goal.returns-else-x-lt0
 returns-else-x-lt0 c =
-    let start = c.before.before in
+    let start = c in
     let e = to_z-of_z w64 start.args.x start.ranges.x in
     writes_same (sign_above start.args.x (omega (linear, c.if-x-lt0.false))) (writes_none _ _)

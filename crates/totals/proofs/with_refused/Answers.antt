@@ -12,7 +12,7 @@ overflow_sub-number c = omega (arith, c.number.ensures, number_positive c.args.f
 
 pub returns : goal.returns
 returns c =
-    let mark = c.before in
+    let mark = c in
     let start = mark.args in
     let t = start.t in
     λ i. record {

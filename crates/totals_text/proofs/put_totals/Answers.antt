@@ -6,13 +6,13 @@ use Rattle.totals_text.proofs.put_totals.Goals as goal
 
 pub shape_of-area : goal.shape_of-area
 shape_of-area c =
-    let p7 = c.before.before in
-    let p6 = p7.before.before.before.before in
-    let p5 = p6.before.before.before.before.before in
-    let p4 = p5.before.before.before.before in
-    let p3 = p4.before.before.before.before.before in
-    let p2 = p3.before.before.before.before.before in
-    let p1 = p2.before.before.before.before.before in
+    let p7 = c in
+    let p6 = p7 in
+    let p5 = p6 in
+    let p4 = p5 in
+    let p3 = p4 in
+    let p2 = p3 in
+    let p1 = p2 in
     p7.put_longest.auto.0
     ∙ p6.put-f.auto.0
     ∙ p5.put_hundredths-e.auto.0
@@ -23,13 +23,13 @@ shape_of-area c =
 
 pub returns : goal.returns
 returns c =
-    let p7 = c.before.before in
-    let p6 = p7.before.before.before.before in
-    let p5 = p6.before.before.before.before.before in
-    let p4 = p5.before.before.before.before in
-    let p3 = p4.before.before.before.before.before in
-    let p2 = p3.before.before.before.before.before in
-    let p1 = p2.before.before.before.before.before in
+    let p7 = c in
+    let p6 = p7 in
+    let p5 = p6 in
+    let p4 = p5 in
+    let p3 = p4 in
+    let p2 = p3 in
+    let p1 = p2 in
     p1.put_count-a.ensures
     then p2.put_counts-b.ensures
     then p3.put_refusals-c.ensures

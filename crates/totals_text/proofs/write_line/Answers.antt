@@ -7,7 +7,7 @@ use Rattle.totals_text.proofs.write_line.Goals as goal
 
 pub returns : goal.returns
 returns c =
-    let end = c.before.before in
-    let said = end.before.before.before.before in
-    let front = said.before.before.before.before in
+    let end = c in
+    let said = end in
+    let front = said in
     text_in _ refl (said.put_said-end.auto.0 ∙ front.put_front-front.auto.0) (front.put_front-front.ensures then said.put_said-end.ensures) end.ended.ensures

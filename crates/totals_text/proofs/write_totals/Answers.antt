@@ -6,6 +6,6 @@ use Rattle.totals_text.proofs.write_totals.Goals as goal
 
 pub returns : goal.returns
 returns c =
-    let end = c.before.before in
-    let put = end.before.before.before.before in
+    let end = c in
+    let put = end in
     text_in _ refl put.put_totals-end.auto.0 put.put_totals-end.ensures end.ended.ensures

@@ -17,6 +17,8 @@ use Rattle.verdict.proofs.Known.{of_legs, legs_small, holds_same, generators_sma
 use Rattle.verdict.proofs.Decided.{first-refused}
 use Rattle.verdict.proofs.Multiples.{generated_some, not-squared_moves}
 use Rattle.verdict.proofs.decide.Goals as goal
+use Rattle.verdict.proofs.decide.Lts as at
+use Rattle.verdict.proofs.decide.Reads as reads
 
 module _ (s : goal.Start) where
   abbrev ds : List Pair
@@ -55,7 +57,7 @@ generator_of-requires c = legs_small (ds (o c)) (o c).requires
 
 pub unmade-requires : goal.unmade-requires
 unmade-requires c =
-    let t = c.before.before in
+    let t = c in
     let s = o t.before in
     (s.requires, subst (IsGeneration (D s)) c.in_default.is t.generator_of.ensures)
 
@@ -64,7 +66,7 @@ returns-in_default c = c.unmade.ensures
 
 -- ---- with a generator
 module _ (c : goal.After-w-1) where
-  abbrev t : goal.After-generator_of
+  abbrev t : at.After-generator_of reads.Pre reads.Post
   t = c.before.before.before.before.before
 
   abbrev e : goal.Else-is_still

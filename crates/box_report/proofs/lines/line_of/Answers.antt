@@ -11,15 +11,15 @@ use Rattle.box_report.proofs.lines.line_of.Goals as goal
 
 pub returns-in-Written : goal.returns-in-Written
 returns-in-Written c =
-    let w = c.before.before.before.before.before in
+    let w = c in
     let s = w.args in
     let after = w.write_line.new.1.1.1.0 in
     written_is s.text.now after c.in-Written.end (subst (LineIn s.number s.name.now s.answer s.text.now after) c.in-Written.is w.write_line.ensures)
 
 pub returns-in-Refused : goal.returns-in-Refused
 returns-in-Refused c =
-    let w = c.before.before.before.before in
-    let start = w.before.before.before.before in
+    let w = c in
+    let start = w in
     let s = start.args in
     let after = w.write_line.new.1.1.1.0 in
     absurd

@@ -11,10 +11,12 @@ use Rattle.sheet.specs.Promise.{answer_of_checked}
 use Rattle.cable.specs.Cables.{answer_line}
 use borrow.Author.Rules.{rules}
 use Rattle.cable.proofs.lines.line_of.Goals as goal
+use Rattle.cable.proofs.lines.line_of.Lts as at
+use Rattle.cable.proofs.lines.line_of.Reads as reads
 
 -- what was written, by its case
 wrote :
-    (c : goal.After-ended) {r : TextAnswer} → c.ended.result ≡ r
+    (c : at.After-ended reads.Pre reads.Post) {r : TextAnswer} → c.ended.result ≡ r
     → let put = c.before.before.before.before in
     let s = put.args in
     TextIn (λ (t : List ℕ). t ≡ answer_line (answer_of_checked s.answer)) s.text.now c.ended.new.0 r
@@ -33,7 +35,7 @@ returns-in-Written c =
 pub returns-in-Refused : goal.returns-in-Refused
 returns-in-Refused c =
     let w = c.before.before.before.before in
-    let start = w.before.before.before.before.before.before.before in
+    let start = w in
     let s = start.args in
     absurd
     (room-enough (length (answer_line (answer_of_checked s.answer))) (λ t h. omega (arith, ap length h)) s.text.now w.ended.new.0 c.in-Refused.field-0 start.requires

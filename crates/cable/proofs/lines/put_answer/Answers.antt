@@ -9,10 +9,10 @@ use Rattle.cable.proofs.lines.put_answer.Goals as goal
 
 pub returns-in-Sheet : goal.returns-in-Sheet
 returns-in-Sheet c =
-    let p = c.before.before in
+    let p = c in
     writes_same (ap (λ (x : Checked). answer_line (answer_of_checked x)) (sym p.in-Sheet.is)) p.put_first_line.ensures
 
 pub returns-in-Refused : goal.returns-in-Refused
 returns-in-Refused c =
-    let p = c.before.before in
+    let p = c in
     writes_same (ap (λ (x : Checked). answer_line (answer_of_checked x)) (sym p.in-Refused.is)) p.Put-refused.ensures

@@ -4,9 +4,11 @@ use lib.Dec.{lit≤}
 use Rattle.pair.proofs.Parts.{wider}
 use Rattle.bernstein.specs.Powers.{differences}
 use Rattle.curve.proofs.drawing.quintic_legs.Goals as goal
+use Rattle.curve.proofs.drawing.quintic_legs.Lts as at
+use Rattle.curve.proofs.drawing.quintic_legs.Reads as reads
 
 -- where the points have been copied
-abbrev start : goal.After-p5-1 → goal.Start
+abbrev start : goal.After-p5-1 → (at.Start reads.Pre reads.Post)
 start c = c.before.before.before.before.before.before
 
 pub difference-d0-requires : goal.difference-d0-requires

@@ -27,8 +27,8 @@ flagged false = refl
 
 pub returns-in-Found : goal.returns-in-Found
 returns-in-Found c =
-    let k = c.before.before.before.before in
-    let m = k.before.before.before in
+    let k = c in
+    let m = k in
     let v = m.r-1.given in
     let x = v.0.0 in
     let f = k.struct_told-1.given in

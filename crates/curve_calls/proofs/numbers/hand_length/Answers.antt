@@ -11,7 +11,7 @@ use Rattle.curve_calls.proofs.numbers.hand_length.Goals as goal
 
 pub returns-in-Found : goal.returns-in-Found
 returns-in-Found c =
-    let k = c.before.before.before in
+    let k = c in
     let v = k.r-1.given in
     let l = v.0.0 in
     let f = k.struct_told-1.given in

@@ -18,6 +18,6 @@ returns-in-Written c =
 
 pub returns-in-Refused : goal.returns-in-Refused
 returns-in-Refused c =
-    let k = c.before in
+    let k = c in
     settled c.coded.type-inv
     (c.coded.ensures ∙ ap (λ (f : Fault). code_of (refused f)) k.nowhere.ensures ∙ sym (ap (λ (a : OffsetAnswer). code_of (answer_of_offset a)) k.in-Refused.is))

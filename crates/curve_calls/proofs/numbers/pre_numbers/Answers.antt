@@ -8,7 +8,7 @@ use Rattle.curve_calls.proofs.numbers.pre_numbers.Goals as goal
 
 pub returns : goal.returns
 returns c =
-    let k = c.before.before.before.before.before in
+    let k = c in
     let s = k.struct_told-1.given in
     let q = c.struct_told-2-1.given in
     let g = c.struct_told-3-1.given in

@@ -17,12 +17,14 @@ use Rattle.make_sheet.specs.Sayings.{NumbersIn}
 use Rattle.make_sheet.proofs.Sentences.{one_number, one_fits, its_size, one_else}
 use borrow.Author.Rules.{rules}
 use Rattle.make_sheet.proofs.lines.amount_in.Goals as goal
+use Rattle.make_sheet.proofs.lines.amount_in.Lts as at
+use Rattle.make_sheet.proofs.lines.amount_in.Reads as reads
 
-module _ (c : goal.After-find-place) where
-  abbrev call : goal.After-take_numbers
+module _ (c : at.After-find reads.Pre reads.Post) where
+  abbrev call : at.After-take_numbers reads.Pre reads.Post
   call = c.before.before.before.before.before
 
-  abbrev start : goal.Start
+  abbrev start : at.Start reads.Pre reads.Post
   start = call.before.before.before
 
   abbrev numbers : List ℤ
@@ -53,7 +55,7 @@ module _ (c : goal.Else-x-lt0) where
 
 pub returns-in-Wrong : goal.returns-in-Wrong
 returns-in-Wrong c =
-    let take = c.before.before.before.before in
+    let take = c in
     let s = take.args in
     let (within, (vs, words, never)) = subst (NumbersIn s.text.now s.from take.take_numbers.new.1.1.1.0) c.in-Wrong.is take.take_numbers.ensures in
     (within, (vs, words, λ n l h. never (pos n ∷ []) (sym take.take_numbers.auto.1.1.1.0) h))

@@ -5,6 +5,6 @@ use Rattle.make_sheet.proofs.lines.cubic.Goals as goal
 
 pub returns : goal.returns
 returns c =
-    let call = c.before in
+    let call = c in
     let s = call.args in
     cubic-behind s.text.now s.from call.curve.result call.curve.ensures

@@ -12,8 +12,8 @@ use Rattle.make_sheet.proofs.lines.curve.Goals as goal
 
 pub returns-in-Wrong : goal.returns-in-Wrong
 returns-in-Wrong c =
-    let known = c.before.before in
-    let call = known.before.before.before in
+    let known = c in
+    let call = known in
     let s = call.args in
     let (within, (vs, words, never)) = subst (NumbersIn s.text.now s.from call.take_numbers.new.1.1.1.0) known.in-Wrong.is call.take_numbers.ensures in
     wrong-curve known.in-Wrong.why known.in-Wrong.place s.text.now within c.wrong.ensures s.from (length s.n.now)
@@ -21,11 +21,11 @@ returns-in-Wrong c =
 
 pub returns-in-Curve : goal.returns-in-Curve
 returns-in-Curve c =
-    let known = c.before in
-    let made = known.before.before in
-    let told = made.before.before in
-    let call = told.before.before.before in
-    let start = call.before.before.before in
+    let known = c in
+    let made = known in
+    let told = made in
+    let call = told in
+    let start = call in
     let s = start.args in
     let xs = call.take_numbers.new.1.1.1.0 in
     let h = subst (NumbersIn s.text.now s.from xs) told.in_default.is call.take_numbers.ensures in
@@ -37,10 +37,10 @@ returns-in-Curve c =
 
 pub returns-in-WrongCount : goal.returns-in-WrongCount
 returns-in-WrongCount c =
-    let told = c.before in
-    let made = told.before.before in
-    let call = made.before.before.before.before.before in
-    let start = call.before.before.before in
+    let told = c in
+    let made = told in
+    let call = made in
+    let start = call in
     let s = start.args in
     let xs = call.take_numbers.new.1.1.1.0 in
     let none = no_room s.text.now s.from xs (subst (IsGiven xs) told.in-WrongCount.is made.curve_in.ensures) in

@@ -20,10 +20,10 @@ returns-then-same-4 c = subst (Tells (c.args.word.now ≡ erased_word)) c.if-sam
 
 pub returns : goal.returns
 returns c =
-    let same4 = c.before in
-    let same3 = same4.before.before.before in
-    let same2 = same3.before.before.before in
-    let same1 = same2.before.before.before in
+    let same4 = c in
+    let same3 = same4 in
+    let same2 = same3 in
+    let same1 = same2 in
     let word = same1.args.word.now in (
       subst (Tells (word ≡ mission_word)) same2.if-same.false same1.same.ensures,
       subst (Tells (word ≡ 67 ∷ 51 ∷ [])) same3.if-same-2.false same2.same-2.ensures,

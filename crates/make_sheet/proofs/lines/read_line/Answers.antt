@@ -11,6 +11,6 @@ slice_bounds-read_words-end c =
 
 pub returns : goal.returns
 returns c =
-    let find = c.before.before in
+    let find = c in
     let text = find.args.text.now in
     line_says text find.find-end.result c.read_words.result find.find-end.ensures (length-take-le find.find-end.result text find.find-end.ensures.within) c.read_words.ensures

@@ -10,13 +10,15 @@ use Rattle.make_sheet.specs.Sayings.{mission_word, erased_word, cubic_word, quin
 use Rattle.make_sheet.proofs.Sentences.{wrong-words, behind_says, unknown_says, nothing_said}
 use borrow.Author.Rules.{rules}
 use Rattle.make_sheet.proofs.lines.read_words.Goals as goal
+use Rattle.make_sheet.proofs.lines.read_words.Lts as at
+use Rattle.make_sheet.proofs.lines.read_words.Reads as reads
 
 -- where the first word was looked at
-module _ (c : goal.After-form_of) where
+module _ (c : at.After-form_of reads.Pre reads.Post) where
   abbrev find : goal.After-find-end
   find = c.before.before
 
-  abbrev first : goal.After-find-first
+  abbrev first : at.After-find reads.Pre reads.Post
   first = find.before.before
 
   abbrev text : List ℕ
@@ -26,7 +28,7 @@ module _ (c : goal.After-form_of) where
   word = take (find.find-end.result - first.find-first.result) (drop first.find-first.result text)
 
   inside : first.find-first.result < length text
-  inside = omega (arith, find.before.if1.left, first.find-first.ensures.within)
+  inside = omega (arith, find.if-first-text.false, first.find-first.ensures.within)
 
   is-named : {f : Form} → c.form_of.result ≡ f → Named f word
   is-named e = subst (λ (f : Form). Named f word) e c.form_of.ensures
@@ -36,7 +38,7 @@ module _ (c : goal.After-form_of) where
 
 pub returns-then-first-text : goal.returns-then-first-text
 returns-then-first-text c =
-    let first = c.before in
+    let first = c in
     nothing_said first.args.text.now first.find-first.result first.find-first.ensures c.if-first-text.true
 
 pub returns-in-Mission : goal.returns-in-Mission

@@ -15,10 +15,13 @@ use Rattle.make_sheet.specs.Sayings.{NotSoMany}
 use Rattle.make_sheet.proofs.Taking.{Passed, passed_none, passed-one, passed-all, NoNumber, passed_else, passed-more, passed_less}
 use borrow.Author.Rules.{rules}
 use Rattle.make_sheet.proofs.lines.take_numbers.Goals as goal
+use Rattle.make_sheet.proofs.lines.take_numbers.Lts as at
+use Rattle.make_sheet.proofs.lines.take_numbers.Reads as reads
+use Rattle.make_sheet.proofs.lines.take_numbers.Tie as tie
 
 -- at a word
 module _ (c : goal.After-find-end) where
-  abbrev start : goal.Start
+  abbrev start : at.Start tie.the-claims reads.Pre reads.Post goal.the-invariant-loop-at goal.the-decreases-loop-at
   start = c.before.before.before.before.before
 
   abbrev word : List ℕ
@@ -37,18 +40,18 @@ loop-at-init c =
 
 pub returns-in-TooLarge : goal.returns-in-TooLarge
 returns-in-TooLarge c =
-    let read = c.before.before in
+    let read = c in
     not-a-number read.before.before number.TooLarge tt (subst (IsNumber (word read.before.before)) c.in-TooLarge.is read.number_in.ensures)
 
 pub returns-in-None : goal.returns-in-None
 returns-in-None c =
-    let read = c.before.before in
+    let read = c in
     not-a-number read.before.before number.None tt (subst (IsNumber (word read.before.before)) c.in-None.is read.number_in.ensures)
 
 pub returns-then-count-out : goal.returns-then-count-out
 returns-then-count-out c =
-    let find = c.before.before.before.before.before.before in
-    let l = find.before.before in
+    let find = c in
+    let l = find in
     let s = l.args in (
       l.loop-at.invariant.within,
       passed-more s.text.now s.from (length s.out.now) l.loop-at.out l.loop-at.count l.loop-at.at l.loop-at.invariant find.find-end.result find.loop-at-test.true
@@ -57,9 +60,9 @@ returns-then-count-out c =
 
 pub loop-at-smaller : goal.loop-at-smaller
 loop-at-smaller c =
-    let number = c.before.before.before.before.before in
-    let find = number.before.before in
-    let l = find.before.before in
+    let number = c in
+    let find = number in
+    let l = find in
     let text = l.args.text.now in
     omega (
       arith,
@@ -70,10 +73,10 @@ loop-at-smaller c =
 
 pub loop-at-preserved : goal.loop-at-preserved
 loop-at-preserved c =
-    let known = c.before.before.before in
-    let read = known.before.before in
-    let find = read.before.before in
-    let l = find.before.before in
+    let known = c in
+    let read = known in
+    let find = read in
+    let l = find in
     let s = l.args in
     let text = s.text.now in
     let w = take (find.find-end.result - l.loop-at.at) (drop l.loop-at.at text) in
@@ -85,7 +88,7 @@ loop-at-preserved c =
 
 pub returns-then-count-out-2 : goal.returns-then-count-out-2
 returns-then-count-out-2 c =
-    let l = c.before.before in
+    let l = c in
     let s = l.args in (
       l.loop-at.invariant.within,
       passed_less s.text.now s.from (length s.out.now) l.loop-at.out l.loop-at.count l.loop-at.at l.loop-at.invariant (omega (arith, c.loop-at-test.false)) (omega (arith, c.if-count-out-2.true)),
@@ -93,6 +96,6 @@ returns-then-count-out-2 c =
 
 pub returns : goal.returns
 returns c =
-    let l = c.before.before in
+    let l = c in
     let s = l.args in
     passed-all s.text.now s.from (length s.out.now) l.loop-at.out l.loop-at.count l.loop-at.at l.loop-at.invariant (omega (arith, c.loop-at-test.false)) (omega (arith, c.if-count-out-2.false))

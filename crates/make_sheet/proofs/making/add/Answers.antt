@@ -15,8 +15,8 @@ returns-in-Ended c =
 
 pub returns : goal.returns
 returns c =
-    let append = c.before.before.before in
-    let met = append.before.before in
+    let append = c in
+    let met = append in
     let s = met.args in
     let h : Appended s.curve s.area.now append.append.new.0 c.changed.result = (append.append.result, append.append.ensures, c.changed.ensures) in
     unless_ended (λ (st : Stage). Adds st s.curve s.area.now append.append.new.0 c.changed.result) h h s.stage met.match.keys2

@@ -9,8 +9,8 @@ use Rattle.make_sheet.proofs.making.begin.Goals as goal
 
 pub returns-in-Blank : goal.returns-in-Blank
 returns-in-Blank c =
-    let call = c.before.before.before in
-    let told = call.before.before in
+    let call = c in
+    let told = call in
     let s = told.args in
     subst (λ (st : Stage). Begins st s.number s.area.now call.start.new.0 c.changed.result) (sym told.in-Blank.is)
     (call.start.result, call.start.ensures, c.changed.ensures)

@@ -18,7 +18,7 @@ returns-in-Ended c =
 
 pub returns-then-count-area : goal.returns-then-count-area
 returns-then-count-area c =
-    let walk = c.before in
+    let walk = c in
     let s = walk.args in
     let is = walk.walk-records.ensures.end_is in
     let e = ap (λ (n : ℕ). ending_at n s.count) is in
@@ -27,7 +27,7 @@ returns-then-count-area c =
 
 pub returns : goal.returns
 returns c =
-    let walk = c.before in
+    let walk = c in
     let s = walk.args in
     let is = walk.walk-records.ensures.end_is in
     let e = ap (λ (n : ℕ). ending_at n s.count) is in

@@ -13,26 +13,26 @@ returns-in-Nothing c =
 
 pub returns-in-Mission : goal.returns-in-Mission
 returns-in-Mission c =
-    let call = c.before.before in
-    let known = call.before.before.before in
+    let call = c in
+    let known = call in
     let s = known.args in
     subst (λ (l : Line). Takes s.stage l s.area.now call.begin.new.0 call.begin.result) (sym known.in-Mission.is) call.begin.ensures
 
 pub returns-in-Curve : goal.returns-in-Curve
 returns-in-Curve c =
-    let call = c.before.before in
-    let known = call.before.before.before in
+    let call = c in
+    let known = call in
     let s = known.args in
     subst (λ (l : Line). Takes s.stage l s.area.now call.add.new.0 call.add.result) (sym known.in-Curve.is) call.add.ensures
 
 pub returns-in-Erased : goal.returns-in-Erased
 returns-in-Erased c =
-    let known = c.before.before.before in
+    let known = c in
     let s = known.args in
     subst (λ (l : Line). Takes s.stage l s.area.now s.area.now c.end.result) (sym known.in-Erased.is) (refl, c.end.ensures)
 
 pub returns-in-Wrong : goal.returns-in-Wrong
 returns-in-Wrong c =
-    let known = c.before in
+    let known = c in
     let s = known.args in
     subst (λ (l : Line). Takes s.stage l s.area.now s.area.now (step.Wrong known.in-Wrong.why)) (sym known.in-Wrong.is) (refl, refl)

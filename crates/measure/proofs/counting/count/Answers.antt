@@ -16,6 +16,8 @@ use Rattle.measure.specs.declared.Turning.{Turning}
 use Rattle.measure.proofs.Most.{start_of, middle_of, end_of}
 use Rattle.measure.proofs.Counts.{count_apart, count_level, count_edge, count_deep, count-flat}
 use Rattle.measure.proofs.counting.count.Goals as goal
+use Rattle.measure.proofs.counting.count.Lts as at
+use Rattle.measure.proofs.counting.count.Reads as reads
 
 module _ (c : goal.After-struct_told-3-1) where
   abbrev x : Turning
@@ -49,7 +51,7 @@ level c =
     bounds (sizes c.before.before)
     (λ ρ e k. let t = simp (e 0, e 1, e 2, readℤ, read_pos ρ 2, kept k) at c.if-b-a-ge0.true in simp (e 0, e 1, e 2, readℤ, read_pos ρ 2) (omega linear))
 
-turned : (c : goal.Else-b-a-ge0) → turn c.before.before <ℤ pos 0
+turned : (c : at.Else2 reads.Pre reads.Post) → turn c.before.before <ℤ pos 0
 turned c =
     bounds (sizes c.before.before)
     (λ ρ e k. let t = simp (e 0, e 1, e 2, readℤ, read_pos ρ 2, kept k) at c.if-b-a-ge0.false in simp (e 0, e 1, e 2, readℤ, read_pos ρ 2) (omega linear))

@@ -8,6 +8,8 @@ use Rattle.whole.proofs.Machine.{same_bits}
 use Rattle.measure.specs.declared.Turning.{Turning}
 use Rattle.measure.specs.Turns.{Straight}
 use Rattle.measure.proofs.counting.is_straight.Goals as goal
+use Rattle.measure.proofs.counting.is_straight.Lts as at
+use Rattle.measure.proofs.counting.is_straight.Reads as reads
 
 pub returns-then-t0-ne0 : goal.returns-then-t0-ne0
 returns-then-t0-ne0 c h = c.if-t0-ne0.true (ap (of_z w64) h.0)
@@ -18,7 +20,7 @@ returns-then-t1-ne0 c h = c.if-t1-ne0.true (ap (of_z w64) h.1)
 pub returns-then-t2-ne0 : goal.returns-then-t2-ne0
 returns-then-t2-ne0 c h = c.if-t2-ne0.true (ap (of_z w64) h.2)
 
-module _ (c : goal.After-struct_told-3-1) where
+module _ (c : at.After-struct_told3 reads.Pre reads.Post) where
   abbrev x : Turning
   x = c.args.x
 

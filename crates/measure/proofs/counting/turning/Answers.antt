@@ -13,21 +13,23 @@ use Rattle.pair.specs.Pairs.{PartsWithin}
 use Rattle.pair.proofs.Parts.{wider}
 use Rattle.measure.proofs.Sizes.{cross-within}
 use Rattle.measure.proofs.counting.turning.Goals as goal
+use Rattle.measure.proofs.counting.turning.Lts as at
+use Rattle.measure.proofs.counting.turning.Reads as reads
 
 small : {a b : Pair} → PartsWithin 2000 a → PartsWithin 2000 b → PartsWithin (2 ^ 30) a × PartsWithin (2 ^ 30) b
 small h k = (wider (lit≤ tt) h, wider (lit≤ tt) k)
 
 pub cross-x01-requires : goal.cross-x01-requires
-cross-x01-requires c = let s = c.before.before.before in small (s.requires 0) (s.requires 1)
+cross-x01-requires c = let s = c in small (s.requires 0) (s.requires 1)
 
 pub cross-x02-requires : goal.cross-x02-requires
-cross-x02-requires c = let s = c.before.before.before.before in small (s.requires 0) (s.requires 2)
+cross-x02-requires c = let s = c in small (s.requires 0) (s.requires 2)
 
 pub cross-x12-requires : goal.cross-x12-requires
-cross-x12-requires c = let s = c.before.before.before.before.before in small (s.requires 1) (s.requires 2)
+cross-x12-requires c = let s = c in small (s.requires 1) (s.requires 2)
 
 module _ (c : goal.After-cross-x12) where
-  abbrev s : goal.Start
+  abbrev s : at.Start reads.Pre reads.Post
   s = c.before.before.before.before.before.before
 
   first : Within 8000000 c.cross-x01.result

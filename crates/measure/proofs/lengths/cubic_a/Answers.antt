@@ -5,9 +5,11 @@ use Rattle.whole.proofs.Wholes.{readℤ, read_pos}
 use Rattle.whole.proofs.Bound.{Bounded, done, ◌▸◌, bounds, fits, kept}
 use Rattle.root.specs.Promise.{root_size}
 use Rattle.measure.proofs.lengths.cubic_a.Goals as goal
+use Rattle.measure.proofs.lengths.cubic_a.Lts as at
+use Rattle.measure.proofs.lengths.cubic_a.Reads as reads
 
 module _ (c : goal.After-struct_told-3-1) where
-  abbrev s : goal.Start
+  abbrev s : at.Start reads.Pre reads.Post
   s = c.before.before.before
 
   sizes : Bounded (root_size ∷ root_size ∷ root_size ∷ []) (s.args.q.q0 ∷ s.args.q.q1 ∷ s.args.q.q2 ∷ [])

@@ -5,9 +5,11 @@ use Rattle.whole.proofs.Wholes.{readℤ, read_pos}
 use Rattle.whole.proofs.Bound.{Bounded, done, ◌▸◌, bounds, fits, kept}
 use Rattle.root.specs.Promise.{root_size}
 use Rattle.measure.proofs.lengths.quintic_a.Goals as goal
+use Rattle.measure.proofs.lengths.quintic_a.Lts as at
+use Rattle.measure.proofs.lengths.quintic_a.Reads as reads
 
 module _ (c : goal.After-struct_told-5-1) where
-  abbrev s : goal.Start
+  abbrev s : at.Start reads.Pre reads.Post
   s = c.before.before.before.before.before
 
   sizes : Bounded (root_size ∷ root_size ∷ root_size ∷ root_size ∷ root_size ∷ [])

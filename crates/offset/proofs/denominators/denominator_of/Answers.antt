@@ -13,6 +13,8 @@ use Rattle.verdict.specs.declared.PreimageAnswer.TheVariants as P
 use Rattle.verdict.specs.Promise.{Preimaged}
 use Rattle.offset.proofs.Answers.{root-asked, denominated_beyond, denominated_refused, denominated_found}
 use Rattle.offset.proofs.denominators.denominator_of.Goals as goal
+use Rattle.offset.proofs.denominators.denominator_of.Lts as at
+use Rattle.offset.proofs.denominators.denominator_of.Reads as reads
 
 h-kept : (c : goal.Start) → to_z w64 (of_z w64 c.args.h) ≡ c.args.h
 h-kept c = to_z-of_z w64 c.args.h c.ranges.h
@@ -26,7 +28,7 @@ h-within : (c : goal.Else-not-within) → Within coordinate_reach c.args.h
 h-within c = subst (Within coordinate_reach) (h-kept c.before.before) (told c.within.result c.within.ensures c.if-not-within.false-raw)
 
 -- there is a pre-image
-module _ (c : goal.In-Found) where
+module _ (c : at.After-known_told reads.Pre reads.Post) where
   abbrev t : goal.Else-not-within
   t = c.before.before.before.before
 

@@ -12,9 +12,11 @@ use Rattle.whole.proofs.Wholes.{readℤ}
 use Rattle.whole.proofs.Bound.{done, ◌▸◌, bounds, fits, kept}
 use Rattle.root.specs.Promise.{quartic}
 use Rattle.offset.proofs.denominators.multiple.Goals as goal
+use Rattle.offset.proofs.denominators.multiple.Lts as at
+use Rattle.offset.proofs.denominators.multiple.Reads as reads
 
 module _ (c : goal.After-struct_told-5-1) where
-  abbrev o : goal.Start
+  abbrev o : at.Start reads.Pre reads.Post
   o = c.before.before.before.before.before
 
   abbrev product : ℕ → ℤ

@@ -26,6 +26,8 @@ use Rattle.pair.proofs.Laws.{root_le}
 use Rattle.root.specs.Promise.{quartic, root_size}
 use Rattle.verdict.specs.declared.Square.{Square}
 use Rattle.offset.proofs.denominators.rooted.Goals as goal
+use Rattle.offset.proofs.denominators.rooted.Lts as at
+use Rattle.offset.proofs.denominators.rooted.Reads as reads
 
 module _ (c : goal.After-q-1) where
   abbrev s : Square
@@ -43,7 +45,7 @@ module _ (c : goal.After-q-1) where
 pub overflow_cast-c : goal.overflow_cast-c
 overflow_cast-c c = let p = c.requires.positive in rw (c-kept c) (cast_asks (omega linear) (c_fits c))
 
-found : (c : goal.After-square_root-m) → IsRoot (nat_abs (s c.before).c) c.square_root-m.result
+found : (c : at.After-square_root reads.Pre reads.Post) → IsRoot (nat_abs (s c.before).c) c.square_root-m.result
 found c = subst (λ z. IsRoot (nat_abs z) c.square_root-m.result) (c-kept c.before) c.square_root-m.ensures
 
 pub returns-then-m-ne0 : goal.returns-then-m-ne0
@@ -52,7 +54,7 @@ returns-then-m-ne0 c =
     (inl (λ m e. no_root (found k) (λ none. omega (arith, c.if-m-ne0.true, none)) m (sym (ap nat_abs e)), refl), refl)
 
 module _ (c : goal.After-struct_known-2-1) where
-  abbrev k : goal.After-square_root-m
+  abbrev k : at.After-square_root reads.Pre reads.Post
   k = c.before.before.before
 
   abbrev t : goal.After-q-1

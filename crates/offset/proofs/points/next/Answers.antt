@@ -10,6 +10,8 @@ use Rattle.whole.proofs.Wholes.{readℤ}
 use Rattle.whole.proofs.Bound.{done, ◌▸◌, bounds, fits, kept, read_back}
 use Rattle.offset.specs.Steps.{nonic}
 use Rattle.offset.proofs.points.next.Goals as goal
+use Rattle.offset.proofs.points.next.Lts as at
+use Rattle.offset.proofs.points.next.Reads as reads
 
 -- one coefficient
 module _ {x y : ℤ} (h : Within 4500000000000000000 x) (k : Within 4500000000000000000 y) where
@@ -20,7 +22,7 @@ module _ {x y : ℤ} (h : Within 4500000000000000000 x) (k : Within 450000000000
   sum_is = bounds (h ▸ k ▸ done) (λ ρ e k. simp (e 0, e 1, readℤ, kept k))
 
 module _ (c : goal.After-struct_told-10-1) where
-  abbrev o : goal.Start
+  abbrev o : at.Start reads.Pre reads.Post
   o = c.before.before.before.before.before.before.before.before.before.before
 
   size : (k : ℕ) → Within 4500000000000000000 (at wholes (nonic o.args.e) k)

@@ -14,16 +14,19 @@ use Rattle.offset.specs.declared.Nonic.{Nonic}
 use Rattle.offset.specs.Steps.{nonic}
 use Rattle.offset.proofs.Turns.{Turn, numbers, doubled_fits, turn-start, turn-left, turn-long, turn_more, turn_end}
 use Rattle.offset.proofs.points.put_points.Goals as goal
+use Rattle.offset.proofs.points.put_points.Lts as at
+use Rattle.offset.proofs.points.put_points.Reads as reads
+use Rattle.offset.proofs.points.put_points.Tie as tie
 
 pub loop-i-init : goal.loop-i-init
 loop-i-init c =
-    let o = c.before.before.before in
+    let o = c in
     let p = o.requires in
     turn-start o.args.area.now o.args.count o.args.rows.w o.args.rows.x o.args.rows.y p.room_is p.few p.w p.x p.y
 
 -- what is known in a turn
 module _ (c : goal.After-struct_told-in-loop-i-2-1) where
-  abbrev s : goal.Start
+  abbrev s : at.Start tie.the-claims reads.Pre reads.Post goal.the-invariant-loop-i goal.the-decreases-loop-i
   s = c.before.before.before.before.before.before.before.before
 
   abbrev before : List ℤ

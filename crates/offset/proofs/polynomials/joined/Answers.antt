@@ -12,6 +12,8 @@ use Rattle.whole.proofs.Bound.{done, ◌▸◌, bounds, fits, kept, read_back}
 use Rattle.root.specs.Promise.{root_size}
 use Rattle.offset.specs.Steps.{coordinate_of, nonic}
 use Rattle.offset.proofs.polynomials.joined.Goals as goal
+use Rattle.offset.proofs.polynomials.joined.Lts as at
+use Rattle.offset.proofs.polynomials.joined.Reads as reads
 
 -- one coefficient
 module _ {a b z : ℤ} (h : Within root_size a) (k : Within 1600000 b) (l : Within 130000000000000 z) where
@@ -25,7 +27,7 @@ module _ {a b z : ℤ} (h : Within root_size a) (k : Within 1600000 b) (l : With
   sum_is = bounds (h ▸ k ▸ l ▸ done) (λ ρ e k. simp (e 0, e 1, e 2, readℤ, kept k))
 
 module _ (c : goal.After-struct_told-15-1) where
-  abbrev o : goal.Start
+  abbrev o : at.Start reads.Pre reads.Post
   o = c.before.before.before.before.before.before.before.before.before.before.before.before.before.before.before
 
   p : (k : ℕ) → Within 130000000000000 (at wholes (nonic o.args.p) k)

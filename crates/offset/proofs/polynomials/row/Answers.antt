@@ -17,6 +17,8 @@ use Rattle.offset.specs.declared.Nonic.{Nonic}
 use Rattle.offset.specs.Steps.{coordinate_of, nonic, joined_to}
 use Rattle.offset.proofs.Products.{row_size-most, none, Stage, stage_none, stage_step, stage_within, stage_row}
 use Rattle.offset.proofs.polynomials.row.Goals as goal
+use Rattle.offset.proofs.polynomials.row.Lts as at
+use Rattle.offset.proofs.polynomials.row.Reads as reads
 
 -- h times a coefficient of d
 module _ {h b : ℤ} (hh : Within coordinate_reach h) (hb : Within 1280000 b) where
@@ -43,22 +45,22 @@ module _ {x : Coordinate} {h : ℤ} (hx : (k : ℕ) → Within 1600000 (at whole
   made e = subst (λ r. Stage x h (suc n) r (a ∷ w) (b ∷ d)) (sym (e ∙ ap₂ (λ f g. joined_to p f x g) (read_back tt ha) (product_is hh hb))) (stage_step hx hh n p w d a b l ha hb s)
 
 -- where the function starts, seen from the place before each call
-abbrev o0 : goal.After-struct_told-10-1 → goal.Start
+abbrev o0 : goal.After-struct_told-10-1 → (at.Start reads.Pre reads.Post)
 o0 c = c.before.before.before.before.before.before.before.before.before.before
 
-abbrev o1 : goal.After-joined-r4 → goal.Start
+abbrev o1 : goal.After-joined-r4 → (at.Start reads.Pre reads.Post)
 o1 c = o0 c.before
 
-abbrev o2 : goal.After-joined-r3 → goal.Start
+abbrev o2 : goal.After-joined-r3 → (at.Start reads.Pre reads.Post)
 o2 c = o1 c.before
 
-abbrev o3 : goal.After-joined-r2 → goal.Start
+abbrev o3 : goal.After-joined-r2 → (at.Start reads.Pre reads.Post)
 o3 c = o2 c.before
 
-abbrev o4 : goal.After-joined-r1 → goal.Start
+abbrev o4 : goal.After-joined-r1 → (at.Start reads.Pre reads.Post)
 o4 c = o3 c.before
 
-abbrev o5 : goal.After-joined → goal.Start
+abbrev o5 : goal.After-joined → (at.Start reads.Pre reads.Post)
 o5 c = o4 c.before
 
 -- the stages, each at the place before its call

@@ -10,6 +10,8 @@ use Rattle.whole.proofs.Wholes.{readℤ}
 use Rattle.whole.proofs.Bound.{done, ◌▸◌, bounds, fits, kept}
 use Rattle.offset.specs.Steps.{nonic}
 use Rattle.offset.proofs.polynomials.weighted.Goals as goal
+use Rattle.offset.proofs.polynomials.weighted.Lts as at
+use Rattle.offset.proofs.polynomials.weighted.Reads as reads
 
 -- one coefficient
 module _ {x y : ℤ} (h : Within 170000000000000 x) (k : Within 252 y) where
@@ -20,7 +22,7 @@ module _ {x y : ℤ} (h : Within 170000000000000 x) (k : Within 252 y) where
   product_is = bounds (h ▸ k ▸ done) (λ ρ e k. simp (e 0, e 1, readℤ, kept k))
 
 module _ (c : goal.After-struct_told-20-1) where
-  abbrev o : goal.Start
+  abbrev o : at.Start reads.Pre reads.Post
   o = c.before.before.before.before.before.before.before.before.before.before.before.before.before.before.before.before.before.before.before.before
 
   a : (k : ℕ) → Within 170000000000000 (at wholes (nonic o.args.a) k)

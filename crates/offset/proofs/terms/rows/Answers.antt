@@ -31,17 +31,19 @@ use Rattle.offset.specs.Steps.{coordinate_of, nonic, PathAsked, IsPath, RowAsked
 use Rattle.offset.proofs.Products.{row_size, row_size-most, row_sized}
 use Rattle.offset.proofs.Paths.{path-asked, path-is, coordinate, weight-least, weight-size, weighted_of}
 use Rattle.offset.proofs.terms.rows.Goals as goal
+use Rattle.offset.proofs.terms.rows.Lts as at
+use Rattle.offset.proofs.terms.rows.Reads as reads
 
 pub legs_of-requires : goal.legs_of-requires
 legs_of-requires c = c.requires.range
 
 pub drawn-d-requires : goal.drawn-d-requires
 drawn-d-requires c k =
-    let s = c.before.before.before in
+    let s = c in
     subst (λ (l : List Pair). PartsWithin leg_reach (at pairs l k)) (sym c.legs_of.ensures) (legs-within (points_of s.args.curve) s.requires.range k)
 
 -- ---- what is known of D and of r, once D is drawn
-module _ (c : goal.After-imaginaries-im) where
+module _ (c : at.After-imaginaries reads.Pre reads.Post) where
   abbrev drew : goal.After-drawn-d
   drew = c.before.before
 
@@ -101,7 +103,7 @@ path-y-requires c = im-asked c.before.before.before
 
 -- ---- what is known of r, once its paths are made
 module _ (c : goal.After-path-y) where
-  abbrev g : goal.After-imaginaries-im
+  abbrev g : at.After-imaginaries reads.Pre reads.Post
   g = c.before.before.before.before
 
   start_small : PartsWithin coordinate_reach (drew g).start-p.result

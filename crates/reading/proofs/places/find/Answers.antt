@@ -14,7 +14,7 @@ loop-at-init c = (search rules, search rules, λ i l f. absurd (omega arith))
 
 pub returns-then-is_sought : goal.returns-then-is_sought
 returns-then-is_sought c =
-    let l = c.before.before.before.before in
+    let l = c in
     let s = l.args in
     let at = l.loop-at.at in
     let inv = l.loop-at.invariant in
@@ -22,7 +22,7 @@ returns-then-is_sought c =
 
 pub loop-at-preserved : goal.loop-at-preserved
 loop-at-preserved c =
-    let l = c.before.before.before.before in
+    let l = c in
     let s = l.args in
     let at = l.loop-at.at in
     let inv = l.loop-at.invariant in

@@ -17,6 +17,8 @@ use Rattle.record.specs.Records.{kind_in}
 use Rattle.record.specs.Promise.{IsHeld}
 use Rattle.record.specs.Steps.{HeldAs}
 use Rattle.record.proofs.points.held_curve.Goals as goal
+use Rattle.record.proofs.points.held_curve.Lts as at
+use Rattle.record.proofs.points.held_curve.Reads as reads
 
 pub returns-then-rest-lt4 : goal.returns-then-rest-lt4
 returns-then-rest-lt4 c k b = omega (arith, b.long, c.if-rest-lt4.true)
@@ -27,8 +29,8 @@ returns-in_default c k b =
     omega arith
 
 -- the kind that is named, and how long its records are
-module _ (c : goal.After-row_of-row) where
-  abbrev named_there : goal.After-kind_in
+module _ (c : at.After-row_of reads.Pre reads.Post) where
+  abbrev named_there : at.After-kind_in reads.Pre reads.Post
   named_there = c.before.before.before.before
 
   abbrev kind : Kind
@@ -61,7 +63,7 @@ held_there rest k long name fits held.None h =
 
 pub returns : goal.returns
 returns c =
-    let tested = c.before.before in
+    let tested = c in
     let r = tested.before in
     let rest = (named_there r).args.rest.now in
     held_there rest (kind r) (named_there r).if-rest-lt4.false (named r) (omega (arith, tested.if-rest-size.false, size_is r)) c.held_in.result

@@ -12,9 +12,9 @@ use Rattle.record.proofs.points.quintic_in.Goals as goal
 pub returns : goal.returns
 unfolding points_in coordinates
 returns c =
-    let four = c.before.before in
-    let two = four.before.before in
-    let s = two.before.before.before in
+    let four = c in
+    let two = four in
+    let s = two in
     let words : (length s.args.bytes.now - 4) / 4 ≡ 12 = omega (arith, s.requires) in
     let p0 = two.point_at.ensures in
     let p1 = two.point_at-2.ensures in

@@ -45,10 +45,10 @@ returns-then-left-lt4 c =
 pub returns-then-may_stand : goal.returns-then-may_stand
 unfolding step_of sized_step if◌then◌else◌
 returns-then-may_stand c =
-    let known = c.before.before.before in
-    let k = known.before.before in
-    let e = k.before in
-    let start = e.before.before.before.before.before.before in
+    let known = c in
+    let k = known in
+    let e = k in
+    let start = e in
     let rest = start.args.rest.now in
     let told = sym k.kind_in.ensures ∙ known.in-Kind.is in
     let may = sym c.may_stand.ensures ∙ c.if-may_stand.true in
@@ -65,9 +65,9 @@ returns-then-may_stand c =
 pub returns-else-may_stand : goal.returns-else-may_stand
 unfolding step_of if◌then◌else◌
 returns-else-may_stand c =
-    let known = c.before.before.before in
-    let k = known.before.before in
-    let e = k.before in
+    let known = c in
+    let k = known in
+    let e = k in
     rw (
       ne_eqb _ _ e.if-left-eq0.false,
       ne_eqb _ _ e.if-left-eq1.false,
@@ -80,8 +80,8 @@ returns-else-may_stand c =
 pub returns-in-Unknown : goal.returns-in-Unknown
 unfolding step_of if◌then◌else◌
 returns-in-Unknown c =
-    let k = c.before.before in
-    let e = k.before in
+    let k = c in
+    let e = k in
     rw (
       ne_eqb _ _ e.if-left-eq0.false,
       ne_eqb _ _ e.if-left-eq1.false,

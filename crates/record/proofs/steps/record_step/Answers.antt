@@ -14,9 +14,11 @@ use Rattle.record.specs.Records.{all_within, sized_step, step_of}
 use Rattle.record.proofs.Table.{row-known}
 use Rattle.record.proofs.Heads.{head-size, headed_step}
 use Rattle.record.proofs.steps.record_step.Goals as goal
+use Rattle.record.proofs.steps.record_step.Lts as at
+use Rattle.record.proofs.steps.record_step.Reads as reads
 
 -- what the head shows
-module _ (c : goal.After-row_of) where
+module _ (c : at.After-row_of reads.Pre reads.Post) where
   abbrev kind : Kind
   kind = c.args.kind
 
@@ -44,7 +46,7 @@ all_within-requires c =
     omega (arith, c.words.ensures, (row-known (kind k)).holds, size_is k, c.if-rest-row_of.false)
 
 -- the test of the coordinates, as many as the table says
-range_is : (c : goal.After-all_within) → let k = c.before.before.before.before in c.all_within.result ≡ all_within (coordinates (words_of (kind k)) (rest k) 4)
+range_is : (c : at.After-all_within reads.Pre reads.Post) → let k = c.before.before.before.before in c.all_within.result ≡ all_within (coordinates (words_of (kind k)) (rest k) 4)
 range_is c =
     let k = c.before.before.before.before in
     c.all_within.ensures ∙ ap (λ (n : ℕ). all_within (coordinates n (rest k) 4)) c.words.ensures
@@ -52,13 +54,13 @@ range_is c =
 pub returns-then-all_within : goal.returns-then-all_within
 unfolding sized_step if◌then◌else◌
 returns-then-all_within c =
-    let e = c.before.before.before in
+    let e = c in
     let k = e.before.before in
     rw (step_is k, eq-eqb _ _ (sized k), le-ltb _ _ (rw (size_is k) at e.if-rest-row_of.false), sym (range_is c.before) ∙ c.if-all_within.true)
 
 pub returns-else-all_within : goal.returns-else-all_within
 unfolding sized_step if◌then◌else◌
 returns-else-all_within c =
-    let e = c.before.before.before in
+    let e = c in
     let k = e.before.before in
     rw (step_is k, eq-eqb _ _ (sized k), le-ltb _ _ (rw (size_is k) at e.if-rest-row_of.false), sym (range_is c.before) ∙ c.if-all_within.false)

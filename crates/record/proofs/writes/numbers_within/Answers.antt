@@ -12,12 +12,15 @@ use Rattle.curve.specs.Sizes.{coordinate_reach}
 use Rattle.record.specs.Records.{all_within}
 use Rattle.record.proofs.Loops.{numbers-none, numbers_fail, numbers_pass}
 use Rattle.record.proofs.writes.numbers_within.Goals as goal
+use Rattle.record.proofs.writes.numbers_within.Lts as at
+use Rattle.record.proofs.writes.numbers_within.Reads as reads
+use Rattle.record.proofs.writes.numbers_within.Tie as tie
 
 pub loop-k-init : goal.loop-k-init
 loop-k-init c = (refl, search rules)
 
 -- what the call says of the element itself
-element : (c : goal.After-is_within) → leb (nat_abs (get_or c.args.xs.now c.loop-k.k (pos 0))) coordinate_reach ≡ c.is_Within.result
+element : (c : at.After-is_within tie.the-claims reads.Pre reads.Post goal.the-invariant-loop-k goal.the-decreases-loop-k) → leb (nat_abs (get_or c.args.xs.now c.loop-k.k (pos 0))) coordinate_reach ≡ c.is_Within.result
 element c =
     let x = get_or c.args.xs.now c.loop-k.k (pos 0) in
     ap (λ (z : ℤ). leb (nat_abs z) coordinate_reach) (sym (to_z-of_z w64 x (record { sfits = c.is_within-arg-1.given })))

@@ -15,13 +15,15 @@ use Rattle.record.specs.Records.{all_within}
 use Rattle.record.proofs.Table.{row-known}
 use Rattle.record.proofs.Putting.{put_back, at_range, at_room, at_done}
 use Rattle.record.proofs.writes.put_at.Goals as goal
+use Rattle.record.proofs.writes.put_at.Lts as at
+use Rattle.record.proofs.writes.put_at.Reads as reads
 
 -- before the tests: what the table and the place say
-module _ (c : goal.After-left_at-left) where
+module _ (c : at.After-left_at reads.Pre reads.Post) where
   abbrev sized : goal.After-row_of-size
   sized = c.before.before
 
-  abbrev start : goal.Start
+  abbrev start : at.Start reads.Pre reads.Post
   start = sized.before.before.before
 
   abbrev bytes : List ℕ
@@ -46,7 +48,7 @@ pub returns-then-not-within : goal.returns-then-not-within
 returns-then-not-within c = at_range _ _ _ _ (sym (within-is c.before) ∙ not-true _ c.if-not-within.true-raw)
 
 -- past the test of RANGE
-range : (c : goal.Else-not-within) → all_within (start c.before).args.xs.now ≡ true
+range : (c : at.Else1 reads.Pre reads.Post) → all_within (start c.before).args.xs.now ≡ true
 range c = sym (within-is c.before) ∙ not-false _ c.if-not-within.false-raw
 
 pub returns-then-left-size : goal.returns-then-left-size
@@ -54,7 +56,7 @@ returns-then-left-size c = let k = c.before.before in at_room _ _ _ _ (range c.b
 
 -- past the test of ROOM: the record fits
 module _ (c : goal.Else-left-size) where
-  abbrev known : goal.After-left_at-left
+  abbrev known : at.After-left_at reads.Pre reads.Post
   known = c.before.before
 
   room : at known + size known ≤ length (bytes known)
@@ -71,7 +73,7 @@ put_record-requires c = let k = known c.before in (part-long c.before ∙ size_i
 
 pub returns : goal.returns
 returns c =
-    let p = c.before.before in
+    let p = c in
     let tested = p.before.before in
     let k = known tested in
     at_done _ _ _ _ (range tested.before) (omega (arith, size_is k, room tested))

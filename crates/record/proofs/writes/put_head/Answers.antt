@@ -8,10 +8,10 @@ use Rattle.record.proofs.Table.{row-known}
 use Rattle.record.proofs.writes.put_head.Goals as goal
 
 pub put_word-requires : goal.put_word-requires
-put_word-requires c = let start = c.before.before.before in omega (arith, start.requires, (row-known start.args.kind).long)
+put_word-requires c = let start = c in omega (arith, start.requires, (row-known start.args.kind).long)
 
 pub returns : goal.returns
 returns c =
-    let put = c.before.before in
-    let start = put.before.before.before.before in
+    let put = c in
+    let start = put in
     put.put_word.ensures ∙ ap (λ (w : ℕ). written start.args.bytes.now 0 (word_bytes w)) put.head_word.ensures ∙ ap (written start.args.bytes.now 0) (row-known start.args.kind).head_is

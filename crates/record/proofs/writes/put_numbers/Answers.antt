@@ -34,19 +34,19 @@ pub bits-requires : goal.bits-requires
 bits-requires c = subst (Within coordinate_reach) (sym (x-kept c)) (x-within c)
 
 pub put_word-requires : goal.put_word-requires
-put_word-requires c = let turn = c.before.before.before.before in omega (arith, turn.requires.0)
+put_word-requires c = let turn = c in omega (arith, turn.requires.0)
 
 pub overflow_add-at : goal.overflow_add-at
 overflow_add-at c =
-    let read = c.before.before.before.before in
-    let turn = read.before.before.before in
+    let read = c in
+    let turn = read in
     omega (arith, turn.requires.0, turn.loop-i.invariant)
 
 pub loop-i-preserved : goal.loop-i-preserved
 loop-i-preserved c =
     let k = c.before.before.before.before in
-    let turn = k.before.before.before in
-    let s = turn.before.before in
+    let turn = k in
+    let s = turn in
     let v = turn.loop-i.invariant in (
       words_more s.args.bytes.now s.args.xs.now s.requires.0 turn.loop-i.i turn.loop-i.at k.loop-i-test.true v.3 v.0
           (c.put_word.ensures ∙ ap (λ (w : ℕ). written turn.loop-i.bytes turn.loop-i.at (word_bytes w)) (c.bits.ensures ∙ ap bits_of (x-kept k))),
@@ -57,5 +57,5 @@ loop-i-preserved c =
 
 pub returns : goal.returns
 returns c =
-    let s = c.before.before.before in
+    let s = c in
     c.loop-i.invariant.0 ∙ words-all s.args.bytes.now s.args.xs.now s.requires.0 c.loop-i.i (omega arith)

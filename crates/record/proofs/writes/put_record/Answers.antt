@@ -11,18 +11,18 @@ put_head-requires c = c.requires.0
 
 pub put_numbers-requires : goal.put_numbers-requires
 put_numbers-requires c =
-    let h = c.before.before.before in
-    let s = h.before.before.before in
+    let h = c in
+    let s = h in
     (h.put_head.auto.0 ∙ s.requires.0 ∙ s.requires.1, s.requires.2)
 
 pub shape_of-bytes : goal.shape_of-bytes
-shape_of-bytes c = let h = c.before.before in h.put_numbers.auto.0 ∙ h.put_head.auto.0
+shape_of-bytes c = let h = c in h.put_numbers.auto.0 ∙ h.put_head.auto.0
 
 pub returns : goal.returns
 returns c =
-    let h = c.before.before in
-    let k = h.before.before.before.before in
-    let s = k.before.before.before in
+    let h = c in
+    let k = h in
+    let s = k in
     h.put_numbers.ensures
     ∙ ap (λ (t : List _). take 4 t ++ encoded s.args.xs.now) k.put_head.ensures
     ∙ head_body s.args.kind s.args.bytes.now (encoded s.args.xs.now)

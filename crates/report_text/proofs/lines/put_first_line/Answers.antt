@@ -5,7 +5,7 @@ use Rattle.report_text.proofs.lines.put_first_line.Goals as goal
 
 pub returns : goal.returns
 returns c =
-    let end = c.before.before in
-    let first = end.before.before.before.before.before in
-    let mission = first.before.before.before.before.before in
+    let end = c in
+    let first = end in
+    let mission = first in
     mission.put_mission-sheet.ensures then first.put_labelled-line.ensures then end.put.ensures

@@ -5,16 +5,16 @@ use Rattle.report_text.proofs.lines.put_line.Goals as goal
 
 pub put_verdict-end-requires : goal.put_verdict-end-requires
 put_verdict-end-requires c =
-    let kind = c.before.before.before in
-    let number = kind.before.before.before.before in
+    let kind = c in
+    let number = kind in
     number.requires
 
 pub returns : goal.returns
 returns c =
-    let end = c.before.before in
-    let judged = end.before.before.before.before.before in
-    let kind = judged.before.before.before.before in
-    let number = kind.before.before.before.before in
+    let end = c in
+    let judged = end in
+    let kind = judged in
+    let number = kind in
     let v = judged.put_verdict-end.ensures in
     record {
       verdict = v.verdict;

@@ -18,10 +18,13 @@ use Rattle.sheet.proofs.Ahead.{curve_in_range, Ahead, ahead_fits, ahead_near, ah
 use Rattle.report_text.specs.Steps.{WritesLines}
 use Rattle.report_text.proofs.Lined.{lines_none, lines_more}
 use Rattle.report_text.proofs.lines.put_lines.Goals as goal
+use Rattle.report_text.proofs.lines.put_lines.Lts as at
+use Rattle.report_text.proofs.lines.put_lines.Reads as reads
+use Rattle.report_text.proofs.lines.put_lines.Tie as tie
 
 pub loop-k-init : goal.loop-k-init
 loop-k-init c =
-    let s = c.before.before.before in
+    let s = c in
     let size : c.row_of-next.result.size ≡ (row_of Header).size = ap (λ (r : Row). r.size) c.row_of-next.ensures in (
       omega arith,
       refl,
@@ -31,8 +34,8 @@ loop-k-init c =
 
 -- the record ahead
 module _ (c : goal.In-loop-k) where
-  abbrev start : goal.Start
-  start = let l = c.before in l.before.before.before.before
+  abbrev start : at.Start tie.the-claims reads.Pre reads.Post goal.the-invariant-loop-k goal.the-decreases-loop-k
+  start = let l = c in l.before.before.before.before
 
   abbrev sheet : List ℕ
   sheet = start.args.sheet.now
@@ -55,7 +58,7 @@ module _ (c : goal.In-loop-k) where
 pub slice_bounds-held_curve-count : goal.slice_bounds-held_curve-count
 slice_bounds-held_curve-count c = omega (arith, ahead_fits (sheet c) (count c) (k c) (next c) (left c) (ahead c))
 
-held_there : (c : goal.After-held_curve) {x : Held} → c.held_curve.result ≡ x → let i = c.before.before in IsHeld (drop (next i) (sheet i)) x
+held_there : (c : at.After-held_curve tie.the-claims reads.Pre reads.Post goal.the-invariant-loop-k goal.the-decreases-loop-k) {x : Held} → c.held_curve.result ≡ x → let i = c.before.before in IsHeld (drop (next i) (sheet i)) x
 held_there c e =
     let i = c.before.before in
     subst (IsHeld (drop (next i) (sheet i))) e (subst (λ (rest : List ℕ). IsHeld rest c.held_curve.result) (rest-is (sheet i) (next i)) c.held_curve.ensures)
@@ -69,7 +72,7 @@ returns-in_default c =
 -- the curve that is held there
 module _ (c : goal.In-Curve) where
   abbrev inside : goal.In-loop-k
-  inside = let h = c.before.before.before in h.before.before
+  inside = let h = c in h.before.before
 
   abbrev curve : Curve
   curve = c.in-Curve.curve
@@ -98,7 +101,7 @@ loop-k-smaller c = omega (arith, left (inside c.before.before.before.before))
 
 pub loop-k-preserved : goal.loop-k-preserved
 loop-k-preserved c =
-    let put = c.before.before in
+    let put = c in
     let f = put.before.before in
     let inv = (inside f).loop-k.invariant in
     (omega (arith, left (inside f)), put.put_line-at.auto.0 ∙ inv.1, lines_more (k (inside f)) inv.2 (read f).0 put.put_line-at.ensures, (read f).2)

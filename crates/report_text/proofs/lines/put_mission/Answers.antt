@@ -7,10 +7,10 @@ use Rattle.report_text.proofs.lines.put_mission.Goals as goal
 
 pub returns-in-None : goal.returns-in-None
 returns-in-None c =
-    let put = c.before.before in
+    let put = c in
     writes_same (sym (ap mission_text put.in-None.is)) put.put.ensures
 
 pub returns-in-Number : goal.returns-in-Number
 returns-in-Number c =
-    let put = c.before.before in
+    let put = c in
     writes_same (sym (ap mission_text put.in-Number.is)) put.put_labelled.ensures

@@ -11,12 +11,14 @@ use Rattle.measure.proofs.LengthSizes.{root_small}
 use Rattle.text.specs.Texts.{bytes, signed}
 use Rattle.text.proofs.Pieces.{◌then◌, writes_same}
 use Rattle.report_text.proofs.lines.put_preimage.Goals as goal
+use Rattle.report_text.proofs.lines.put_preimage.Lts as at
+use Rattle.report_text.proofs.lines.put_preimage.Reads as reads
 
 pub length_by-length-requires : goal.length_by-length-requires
 length_by-length-requires c = root_small c.args.p c.args.curve c.requires.1 c.requires.0
 
 -- the fields of the length fit: far behind, that is no longer found
-module _ (c : goal.After-length_by-length) where
+module _ (c : at.After-length_by reads.Pre reads.Post) where
   c_fits : SFits w64 c.length_by-length.result.c
   c_fits = search rules
 
@@ -32,11 +34,11 @@ kept {x} f e = to_z-of_z w64 x f ∙ e
 
 pub returns : goal.returns
 returns c =
-    let over = c.before.before in
-    let between = over.before.before.before in
-    let length = between.before.before.before in
-    let ahead = length.before.before.before in
-    let content = ahead.before.before.before in
+    let over = c in
+    let between = over in
+    let length = between in
+    let ahead = length in
+    let content = ahead in
     let found = content.before.before.before.before in
     let is = found.length_by-length.ensures in
     writes_same (ap (λ (x : ℤ). bytes "pre c=" ++ signed x) (kept (c_fits found) (ap (λ (l : Length). l.c) is))) content.put_signed-a.ensures

@@ -9,10 +9,10 @@ use Rattle.report_text.proofs.lines.put_refused.Goals as goal
 
 pub returns : goal.returns
 returns c =
-    let end = c.before.before in
-    let place = end.before.before.before.before.before in
-    let between = place.before.before.before in
-    let number = between.before.before.before in
+    let end = c in
+    let place = end in
+    let between = place in
+    let number = between in
     writes_same (ap (λ (n : ℕ). bytes "refused " ++ decimal n) number.number.ensures) number.put_labelled-at.ensures
     then place.put_labelled-line.ensures
     then end.put.ensures

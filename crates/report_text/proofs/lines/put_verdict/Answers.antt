@@ -12,30 +12,32 @@ use Rattle.verdict.specs.Promise.{Recognised}
 use Rattle.text.specs.Texts.{bytes, signed}
 use Rattle.text.proofs.Pieces.{writes_none, writes_same}
 use Rattle.report_text.proofs.lines.put_verdict.Goals as goal
+use Rattle.report_text.proofs.lines.put_verdict.Lts as at
+use Rattle.report_text.proofs.lines.put_verdict.Reads as reads
 
 -- what was recognised, by its case
-judged : (c : goal.After-recognise) {v : Verdict} → c.recognise.result ≡ v → Recognised (points_of c.args.curve) v
+judged : (c : at.After-recognise reads.Pre reads.Post) {v : Verdict} → c.recognise.result ≡ v → Recognised (points_of c.args.curve) v
 judged c e = subst (Recognised (points_of c.args.curve)) e c.recognise.ensures
 
 pub put_preimage-requires : goal.put_preimage-requires
-put_preimage-requires c = let found = c.before.before in (found.requires, (judged found.before.before found.in-Pre.is).1.1)
+put_preimage-requires c = let found = c in (found.requires, (judged found.before.before found.in-Pre.is).1.1)
 
 pub returns-in-Still : goal.returns-in-Still
 returns-in-Still c =
-    let put = c.before.before in
-    let told = put.before.before.before in
+    let put = c in
+    let told = put in
     record { verdict = verdicts.Still; recognised = judged told.before.before told.in-Still.is; writes = put.put.ensures }
 
 pub returns-in-No : goal.returns-in-No
 returns-in-No c =
-    let put = c.before.before in
-    let told = put.before.before.before in
+    let put = c in
+    let told = put in
     record { verdict = verdicts.No; recognised = judged told.before.before told.in-No.is; writes = put.put-in-No.ensures }
 
 pub returns-in-Ph : goal.returns-in-Ph
 returns-in-Ph c =
-    let put = c.before.before in
-    let found = put.before.before.before.before.before in
+    let put = c in
+    let found = put in
     let kept = to_z-of_z w64 found.in-Ph.s.c (search rules) in
     record {
       verdict = verdicts.Ph found.in-Ph.s;
@@ -45,8 +47,8 @@ returns-in-Ph c =
 
 pub returns-in-Pre : goal.returns-in-Pre
 returns-in-Pre c =
-    let put = c.before.before in
-    let found = put.before.before.before in
+    let put = c in
+    let found = put in
     record { verdict = verdicts.Pre found.in-Pre.p; recognised = judged found.before.before found.in-Pre.is; writes = put.put_preimage.ensures }
 
 pub returns-in-Refused : goal.returns-in-Refused

@@ -14,6 +14,9 @@ use Rattle.record.proofs.Shown.{fault_near}
 use Rattle.sheet.specs.Walks.{Walks}
 use Rattle.sheet.proofs.Passed.{Passed, passed_none, walked-long, rest-is, sound-here, fault_here, farther, passed_here, passed_past, passed_other}
 use Rattle.sheet.proofs.walks.walk.Goals as goal
+use Rattle.sheet.proofs.walks.walk.Lts as at
+use Rattle.sheet.proofs.walks.walk.Reads as reads
+use Rattle.sheet.proofs.walks.walk.Tie as tie
 
 pub returns-then-sheet-gt-LONGEST : goal.returns-then-sheet-gt-LONGEST
 returns-then-sheet-gt-LONGEST c = subst (Walks _ _ _) (sym c.faulty.ensures) (walked-long _ _ _ c.if-sheet-gt-LONGEST.true c.nowhere.ensures)
@@ -25,7 +28,7 @@ pub slice_bounds-step_of-count : goal.slice_bounds-step_of-count
 slice_bounds-step_of-count c = c.loop-refusal.invariant.room
 
 -- the step at the walk's place, and what is known there
-module _ (c : goal.After-step_of) where
+module _ (c : at.After-step_of tie.the-claims reads.Pre reads.Post goal.the-invariant-loop-refusal goal.the-decreases-loop-refusal) where
   abbrev head : goal.At-loop-refusal
   head = c.before.before
 
@@ -33,14 +36,14 @@ module _ (c : goal.After-step_of) where
   sheet = head.args.sheet.now
 
   short : length sheet ≤ longest
-  short = head.before.if1.left
+  short = head.if-sheet-gt-LONGEST.false
 
   step_is : c.step_of.result ≡ step_of head.loop-refusal.first (drop head.loop-refusal.at sheet)
   step_is = c.step_of.ensures ∙ ap (step_of head.loop-refusal.first) (rest-is sheet head.loop-refusal.at)
 
 pub returns-in-Ends : goal.returns-in-Ends
 returns-in-Ends c =
-    let told = c.before in
+    let told = c in
     let k = told.before.before in
     subst (Walks _ _ _) (sym c.sound.ensures) (sound-here (head k).loop-refusal.invariant (short k) (sym (step_is k) ∙ told.in-Ends.is))
 
@@ -59,14 +62,14 @@ overflow_cast-place c = omega (arith, within c)
 
 pub returns-in-Fault : goal.returns-in-Fault
 returns-in-Fault c =
-    let known = c.before in
+    let known = c in
     let k = known.before.before.before in
     subst (Walks _ _ _) (sym c.faulty-in-Fault.ensures) (fault_here (head k).loop-refusal.invariant (short k) (sym (step_is k) ∙ known.in-Fault.is))
 
 -- what a record's step says there
 module _ (c : goal.After-struct_known-1) where
-  abbrev stepped : goal.After-step_of
-  stepped = let told = c.before.before in told.before.before.before
+  abbrev stepped : at.After-step_of tie.the-claims reads.Pre reads.Post goal.the-invariant-loop-refusal goal.the-decreases-loop-refusal
+  stepped = let told = c in told.before.before.before
 
   abbrev place : ℕ
   place = (head stepped).loop-refusal.at

@@ -14,7 +14,7 @@ loop-i-init c = (refl, refl, omega arith)
 
 pub loop-i-preserved : goal.loop-i-preserved
 loop-i-preserved c =
-    let turn = c.before.before.before.before.before in
+    let turn = c in
     let words = turn.args.words.now in
     let put = c.put_long in (
       unpacked-more (replicate 56 0) words turn.loop-i.i (omega (arith, turn.requires)) (omega (arith, turn.requires, c.loop-i-test.true)) turn.loop-i.invariant.0 put.ensures,
@@ -24,7 +24,7 @@ loop-i-preserved c =
 
 pub returns : goal.returns
 returns c =
-    let turn = c.before in
+    let turn = c in
     let words = turn.args.words.now in
     turn.loop-i.invariant.0
     ∙ unpacked-all (replicate 56 0) words turn.loop-i.i (omega (arith, turn.requires)) (omega (arith, turn.requires, turn.loop-i.invariant.2, c.loop-i-test.false))

@@ -5,12 +5,12 @@ use Rattle.states.proofs.Pieces.{padded-long, packed-padded}
 use Rattle.states.proofs.front.front_words.Goals as goal
 
 pub slice_bounds-words_of-end : goal.slice_bounds-words_of-end
-slice_bounds-words_of-end c = let f = c.before.before in sym (padded-long f.args.bytes.now f.fill.ensures)
+slice_bounds-words_of-end c = let f = c in sym (padded-long f.args.bytes.now f.fill.ensures)
 
 pub words_of-requires : goal.words_of-requires
-words_of-requires c = let f = c.before.before in padded-long f.args.bytes.now f.fill.ensures
+words_of-requires c = let f = c in padded-long f.args.bytes.now f.fill.ensures
 
 pub returns : goal.returns
 returns c =
-    let f = c.before.before.before in
+    let f = c in
     c.words_of.ensures ∙ packed-padded f.args.bytes.now f.fill.ensures

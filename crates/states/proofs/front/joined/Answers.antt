@@ -15,9 +15,9 @@ bytes_of-front-requires c = ap length c.requires.0 ∙ packed-long _
 
 pub returns : goal.returns
 returns c =
-    let fill = c.before in
-    let bytes = fill.before.before in
-    let s = bytes.before.before.before in
+    let fill = c in
+    let bytes = fill in
+    let s = bytes in
     let held = s.args.held in
     let part = s.args.part.now in
     subst

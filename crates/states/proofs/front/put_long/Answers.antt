@@ -10,8 +10,8 @@ use Rattle.states.proofs.front.put_long.Goals as goal
 
 pub returns : goal.returns
 returns c =
-    let second = c.before.before in
-    let first = second.before.before.before.before in
+    let second = c in
+    let first = second in
     let s = first.args in
     second.put_word-2.ensures
     ∙ ap (λ (t : List ℕ). written t (s.at + 4) (word_bytes (s.w / 4294967296))) first.put_word.ensures

@@ -7,12 +7,12 @@ use Rattle.states.proofs.front.words_of.Goals as goal
 pub returns : goal.returns
 unfolding words_in
 returns c =
-    let c6 = c.before in
-    let c5 = c6.before in
-    let c4 = c5.before in
-    let c3 = c4.before in
-    let c2 = c3.before in
-    let c1 = c2.before in
+    let c6 = c in
+    let c5 = c6 in
+    let c4 = c5 in
+    let c3 = c4 in
+    let c2 = c3 in
+    let c1 = c2 in
     λ i.
     c1.long_at.ensures i
     ∷ c2.long_at-2.ensures i

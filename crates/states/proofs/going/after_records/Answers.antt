@@ -17,14 +17,14 @@ use Rattle.states.proofs.going.after_records.Goals as goal
 
 pub overflow_add-result-2 : goal.overflow_add-result-2
 overflow_add-result-2 c =
-    let w = c.before.before.before in
-    let s = w.before.before in
+    let w = c in
+    let s = w in
     omega (arith, walked_few w.walk-w.ensures, s.requires)
 
 pub returns : goal.returns
 unfolding after_records
 returns c =
-    let w = c.before.before.before.before.before.before in
+    let w = c in
     let s = w.args in
     let rest = s.rest.now in
     let found = w.walk-w.ensures in

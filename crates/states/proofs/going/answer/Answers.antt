@@ -20,6 +20,8 @@ use Rattle.states.specs.Steps.{first_in, front_in, sound_in, answer_by, answer_w
 use Rattle.states.proofs.Possible.{short_stands}
 use Rattle.states.proofs.Answered.{front_long, answer_by_lem, fault_within, leftover_within}
 use Rattle.states.proofs.going.answer.Goals as goal
+use Rattle.states.proofs.going.answer.Lts as at
+use Rattle.states.proofs.going.answer.Reads as reads
 
 pub returns-then-state-gt-LONGEST : goal.returns-then-state-gt-LONGEST
 unfolding answer_in if◌then◌else◌
@@ -48,7 +50,7 @@ pub slice_bounds-walk-end : goal.slice_bounds-walk-end
 slice_bounds-walk-end c = c.least-held.ensures ∙ sym (ap length (front-is c) ∙ front_long (stands (known c)))
 
 -- and the answer is by the ending that it finds
-module _ (c : goal.After-walk-w) where
+module _ (c : at.After-walk reads.Pre reads.Post) where
   abbrev stood : State
   stood = st (known c.before.before)
 
@@ -63,13 +65,13 @@ module _ (c : goal.After-walk-w) where
 
 pub fault_behind-requires : goal.fault_behind-requires
 fault_behind-requires c =
-    let told = c.before.before in
+    let told = c in
     let k = told.before.before in
     fault_within (standing k) _ (ending_is k ∙ told.in-Faulty.is)
 
 -- where the front ends soundly, the answer is by the step behind it
-module _ (c : goal.After-erased_end) where
-  abbrev walked : goal.After-walk-w
+module _ (c : at.After-erased_end reads.Pre reads.Post) where
+  abbrev walked : at.After-walk reads.Pre reads.Post
   walked = c.before.before.before
 
   by_step : answer_in (stood walked) ≡ answer_by (stood walked) c.erased_end.result
@@ -77,7 +79,7 @@ module _ (c : goal.After-erased_end) where
 
 pub fault_behind-requires-in-Fault : goal.fault_behind-requires-in-Fault
 fault_behind-requires-in-Fault c =
-    let told = c.before in
+    let told = c in
     let k = told.before.before in
     leftover_within (standing (walked k)) _ _ (sym k.erased_end.ensures ∙ told.in-Fault.is)
 
@@ -86,13 +88,13 @@ mission_of-requires c = (standing (walked c.before)).mission.two_bytes
 
 pub returns-in-Faulty : goal.returns-in-Faulty
 returns-in-Faulty c =
-    let told = c.before.before.before in
+    let told = c in
     let k = told.before.before in
     c.fault_behind.ensures ∙ sym (by_walk k ∙ ap (answer_with (stood k)) told.in-Faulty.is)
 
 pub returns-in-Fault : goal.returns-in-Fault
 returns-in-Fault c =
-    let told = c.before.before in
+    let told = c in
     let k = told.before.before in
     c.fault_behind-in-Fault.ensures ∙ sym (by_step k ∙ ap (answer_by (stood (walked k))) told.in-Fault.is)
 

@@ -14,10 +14,10 @@ unfolding if◌then◌else◌
 returns-then-state-left c = rw (ne_eqb _ _ c.if-state-left.true)
 
 pub overflow_add-result : goal.overflow_add-result
-overflow_add-result c = let s = c.before.before.before.before.before in omega (arith, c.erased_bytes.ensures, erased-within s.args.part.now, s.requires.0, s.requires.1)
+overflow_add-result c = let s = c in omega (arith, c.erased_bytes.ensures, erased-within s.args.part.now, s.requires.0, s.requires.1)
 
 pub returns : goal.returns
 unfolding if◌then◌else◌
 returns c =
-    let s = c.before.before.before.before.before in
+    let s = c in
     rw (eq-eqb _ _ c.if-state-left.false) (ap (λ (n : ℕ). behind_in s.args.state + n) c.erased_bytes.ensures)

@@ -21,11 +21,13 @@ use Rattle.states.specs.Steps.{first_in, behind_in, held_in, front_in, joined_to
 use Rattle.states.proofs.Pieces.{packed-zeros, mission-padded, padded-all}
 use Rattle.states.proofs.Fronts.{curves-within, seven-words, held-long, joined-long, starts_later}
 use Rattle.states.proofs.going.onward.Goals as goal
+use Rattle.states.proofs.going.onward.Lts as at
+use Rattle.states.proofs.going.onward.Reads as reads
 
 pub joined-front-requires : goal.joined-front-requires
 joined-front-requires c =
-    let l = c.before.before in
-    let s = l.before.before.before in
+    let l = c in
+    let s = l in
     let words = s.args.state.words in (
       subst (λ (n : ℕ). words ≡ packed (take n (unpacked words))) (sym l.least-held.ensures) s.requires.0.front.words_are,
       omega (arith, l.least-held.ensures),
@@ -33,7 +35,7 @@ joined-front-requires c =
 
 -- what the walk is given: the bytes of the state and of the part
 module _ (c : goal.After-front-1) where
-  abbrev start : goal.Start
+  abbrev start : at.Start reads.Pre reads.Post
   start = c.before.before.before.before.before.before.before.before.before
 
   abbrev state : State
@@ -69,7 +71,7 @@ pub slice_bounds-walk-end : goal.slice_bounds-walk-end
 slice_bounds-walk-end c = sym (length-take-le c.least-all.result (front c) (omega (arith, front_long c, all-is c, joined-long (state c) (seven c) (part c))))
 
 -- the records that the walk finds end behind the bytes of the state, and within the part
-module _ (c : goal.After-walk-w) where
+module _ (c : at.After-walk reads.Pre reads.Post) where
   abbrev stood : goal.After-front-1
   stood = c.before.before
 
@@ -104,10 +106,10 @@ pub mission_on-mission-requires : goal.mission_on-mission-requires
 mission_on-mission-requires c = omega (arith, front_long (stood c.before.before))
 
 pub overflow_sub-size : goal.overflow_sub-size
-overflow_sub-size c = let k = c.before.before in omega (arith, later k.before k.if-size-gt0.true)
+overflow_sub-size c = let k = c in omega (arith, later k.before k.if-size-gt0.true)
 
 pub slice_bounds-after_records-count : goal.slice_bounds-after_records-count
-slice_bounds-after_records-count c = let k = c.before.before in omega (arith, later k.before k.if-size-gt0.true, within k.before, long_is k.before)
+slice_bounds-after_records-count c = let k = c in omega (arith, later k.before k.if-size-gt0.true, within k.before, long_is k.before)
 
 pub after_records-requires : goal.after_records-requires
 after_records-requires c =
@@ -123,7 +125,7 @@ after_records-requires c =
 pub returns-then-size-gt0 : goal.returns-then-size-gt0
 unfolding onward if◌then◌else◌
 returns-then-size-gt0 c =
-    let m = c.before.before in
+    let m = c in
     let w = m.before.before.before in
     let st = state (stood w) in
     let bytes = part (stood w) in

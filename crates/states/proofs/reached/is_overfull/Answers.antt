@@ -24,11 +24,11 @@ returns-then-state-ne0-4 c = λ h. c.if-state-ne0-4.true (ap (λ (x : State). x.
 pub returns : goal.returns
 unfolding words_in
 returns c =
-    let fifth = c.before.before.before.before in
-    let fourth = fifth.before.before in
-    let third = fourth.before.before in
-    let second = third.before.before in
-    let first = second.before.before in
+    let fifth = c in
+    let fourth = fifth in
+    let third = fourth in
+    let second = third in
+    let first = second in
     let st = first.args.state in
     told-map
     (λ e i. record {

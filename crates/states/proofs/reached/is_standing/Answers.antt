@@ -12,8 +12,8 @@ returns-then-not-records_end c = λ s. untold c.records_end.result c.records_end
 
 pub returns : goal.returns
 returns c =
-    let ends = c.before.before in
-    let fits = ends.before.before in
+    let ends = c in
+    let fits = ends in
     told-map
     (λ f. record {
       short = omega (arith, fits.if-state-gt-LONGEST.false);

@@ -15,10 +15,13 @@ use Rattle.sheet.proofs.Ahead.{curve_in_range, Ahead, ahead_fits, ahead_near, ah
 use Rattle.totals.specs.Steps.{CountsCurves}
 use Rattle.totals.proofs.Walked.{curves-none, curves-next, counted_sound, first_ahead}
 use Rattle.totals.proofs.counting.count_curves.Goals as goal
+use Rattle.totals.proofs.counting.count_curves.Lts as at
+use Rattle.totals.proofs.counting.count_curves.Reads as reads
+use Rattle.totals.proofs.counting.count_curves.Tie as tie
 
 pub loop-k-init : goal.loop-k-init
 loop-k-init c =
-    let s = c.before.before in
+    let s = c in
     let sheet = s.args.sheet.now in
     let count = s.args.count in (
       omega arith,
@@ -28,7 +31,7 @@ loop-k-init c =
 
 -- the record ahead
 module _ (c : goal.In-loop-k) where
-  abbrev start : goal.Start
+  abbrev start : at.Start tie.the-claims reads.Pre reads.Post goal.the-invariant-loop-k goal.the-decreases-loop-k
   start = c.before.before.before.before
 
   abbrev sheet : List ℕ
@@ -52,7 +55,7 @@ module _ (c : goal.In-loop-k) where
 pub slice_bounds-held_curve-count : goal.slice_bounds-held_curve-count
 slice_bounds-held_curve-count c = omega (arith, ahead_fits (sheet c) (count c) (k c) (next c) (left c) (ahead c))
 
-held_there : (c : goal.After-held_curve) {x : Held} → c.held_curve.result ≡ x → let i = c.before.before in IsHeld (drop (next i) (sheet i)) x
+held_there : (c : at.After-held_curve tie.the-claims reads.Pre reads.Post goal.the-invariant-loop-k goal.the-decreases-loop-k) {x : Held} → c.held_curve.result ≡ x → let i = c.before.before in IsHeld (drop (next i) (sheet i)) x
 held_there c e =
     let i = c.before.before in
     subst (IsHeld (drop (next i) (sheet i))) e (subst (λ (rest : List ℕ). IsHeld rest c.held_curve.result) (rest-is (sheet i) (next i)) c.held_curve.ensures)

@@ -8,8 +8,8 @@ use Rattle.totals.proofs.counting.with_curve.Goals as goal
 
 pub returns : goal.returns
 returns c =
-    let plus = c.before.before in
-    let mark = plus.before.before.before in
+    let plus = c in
+    let mark = plus in
     let t = mark.args.t in
     λ i. record {
       sheets = t.sheets;

@@ -11,14 +11,16 @@ use Rattle.verdict.specs.declared.Verdict.TheVariants as verdicts
 use Rattle.verdict.specs.Promise.{Recognised}
 use borrow.Author.Rules.{rules}
 use Rattle.totals.proofs.judging.judge.Goals as goal
+use Rattle.totals.proofs.judging.judge.Lts as at
+use Rattle.totals.proofs.judging.judge.Reads as reads
 
 -- what was recognised, by its case
-judged : (c : goal.After-recognise) {v : Verdict} → c.recognise.result ≡ v → Recognised (points_of c.args.curve) v
+judged : (c : at.After-recognise reads.Pre reads.Post) {v : Verdict} → c.recognise.result ≡ v → Recognised (points_of c.args.curve) v
 judged c e = subst (Recognised (points_of c.args.curve)) e c.recognise.ensures
 
 pub measured-requires : goal.measured-requires
 measured-requires c =
-    let found = c.before in
+    let found = c in
     (found.requires, (judged found.before.before found.in-Pre.is).1.1)
 
 pub returns-in-Still : goal.returns-in-Still
@@ -32,7 +34,7 @@ returns-in-Ph c = record { verdict = verdicts.Ph c.in-Ph.field-0; recognised = j
 
 pub returns-in-Pre : goal.returns-in-Pre
 returns-in-Pre c =
-    let found = c.before.before in
+    let found = c in
     record {
       verdict = verdicts.Pre found.in-Pre.p;
       recognised = judged found.before.before found.in-Pre.is;

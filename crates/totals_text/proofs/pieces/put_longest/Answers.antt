@@ -6,14 +6,14 @@ use borrow.Author.Rules.{rules}
 use Rattle.totals_text.proofs.pieces.put_longest.Goals as goal
 
 pub returns-in-None : goal.returns-in-None
-returns-in-None c = let p = c.before.before in writes_same (ap longest_line (sym p.in-None.is)) p.put.ensures
+returns-in-None c = let p = c in writes_same (ap longest_line (sym p.in-None.is)) p.put.ensures
 
 pub returns-in-Curve : goal.returns-in-Curve
 returns-in-Curve c =
-    let p4 = c.before.before in
-    let p3 = p4.before.before.before.before.before in
-    let p2 = p3.before.before.before.before.before in
-    let p1 = p2.before.before.before.before in
+    let p4 = c in
+    let p3 = p4 in
+    let p2 = p3 in
+    let p1 = p2 in
     writes_same (ap longest_line (sym p1.in-Curve.is))
     (p1.put-length.ensures
     then p2.put_hundredths-sheet.ensures

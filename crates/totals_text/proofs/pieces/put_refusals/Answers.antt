@@ -6,12 +6,12 @@ use Rattle.totals_text.proofs.pieces.put_refusals.Goals as goal
 
 pub shape_of-area : goal.shape_of-area
 shape_of-area c =
-    let p6 = c.before.before in
-    let p5 = p6.before.before.before.before.before.before in
-    let p4 = p5.before.before.before.before.before.before in
-    let p3 = p4.before.before.before.before.before.before in
-    let p2 = p3.before.before.before.before.before.before in
-    let p1 = p2.before.before.before.before.before.before in
+    let p6 = c in
+    let p5 = p6 in
+    let p4 = p5 in
+    let p3 = p4 in
+    let p2 = p3 in
+    let p1 = p2 in
     p6.put_count.auto.0
     ∙ p5.put_count-f.auto.0
     ∙ p4.put_count-e.auto.0
@@ -21,12 +21,12 @@ shape_of-area c =
 
 pub returns : goal.returns
 returns c =
-    let p6 = c.before.before in
-    let p5 = p6.before.before.before.before.before.before in
-    let p4 = p5.before.before.before.before.before.before in
-    let p3 = p4.before.before.before.before.before.before in
-    let p2 = p3.before.before.before.before.before.before in
-    let p1 = p2.before.before.before.before.before.before in
+    let p6 = c in
+    let p5 = p6 in
+    let p4 = p5 in
+    let p3 = p4 in
+    let p2 = p3 in
+    let p1 = p2 in
     p1.put_count-b.ensures
     then p2.put_count-c.ensures
     then p3.put_count-d.ensures

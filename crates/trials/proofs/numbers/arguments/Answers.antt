@@ -8,7 +8,7 @@ use Rattle.trials.proofs.numbers.arguments.Goals as goal
 
 pub loop-at-preserved : goal.loop-at-preserved
 loop-at-preserved c =
-    let read = c.before.before.before in
+    let read = c in
     let l = read.loop-at in
     let same = l.invariant.0 in (
       ⊎_elim

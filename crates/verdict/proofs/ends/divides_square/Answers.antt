@@ -7,8 +7,10 @@ use lib.Dec.{eqb}
 use Rattle.whole.proofs.Flags.{told-map, equal_tells}
 use Rattle.verdict.proofs.Rests.{rest_of_multiple}
 use Rattle.verdict.proofs.ends.divides_square.Goals as goal
+use Rattle.verdict.proofs.ends.divides_square.Lts as at
+use Rattle.verdict.proofs.ends.divides_square.Reads as reads
 
-some : (s : goal.Start) → 0 < s.args.d
+some : (s : at.Start reads.Pre reads.Post) → 0 < s.args.d
 some s = pos_of_ne-zero s.requires.0
 
 -- ---- x is small: n x² fits

@@ -76,7 +76,7 @@ module _ (c : goal.After-size) where
   x-is = c.size.ensures ∙ ap nat_abs (to_z-of_z w64 c.cross.result (search rules) ∙ c.cross.ensures)
 
   some : nat_abs (norm d) ≡ 0 → ⊥
-  some z = subst (Tells (d ≡ pairs.none)) t.before.if1.left t.is_zero.ensures (norm-zero d (abs_zero (norm d) z))
+  some z = subst (Tells (d ≡ pairs.none)) t.if-is_zero.false t.is_zero.ensures (norm-zero d (abs_zero (norm d) z))
 
 pub divides_square-requires : goal.divides_square-requires
 divides_square-requires c = (

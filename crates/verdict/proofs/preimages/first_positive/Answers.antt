@@ -11,8 +11,10 @@ use mir.ValLaws.{to_z-of_z}
 use Rattle.whole.specs.Number.{FirstPositive, Tells}
 use Rattle.whole.proofs.Linear.{linear}
 use Rattle.verdict.proofs.preimages.first_positive.Goals as goal
+use Rattle.verdict.proofs.preimages.first_positive.Lts as at
+use Rattle.verdict.proofs.preimages.first_positive.Reads as reads
 
-module _ (c : goal.After-struct_told-2-1) where
+module _ (c : at.After-struct_told2 reads.Pre reads.Post) where
   abbrev x : ℤ
   x = c.args.p.re
 

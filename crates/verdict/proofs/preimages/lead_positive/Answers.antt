@@ -38,7 +38,7 @@ module _ (c : goal.Else-not-is_zero) where
 
 pub returns-then-not-is_zero : goal.returns-then-not-is_zero
 returns-then-not-is_zero c =
-    let t = c.before.before.before in
+    let t = c in
     let v = t.args.w in
     carried v 2 c.first_positive.result
     (record { lead = untold c.is_zero.result c.is_zero.ensures c.if-not-is_zero.true-raw; above = length_above pairs (quadratic v) 2 (omega arith) })

@@ -21,11 +21,11 @@ use Rattle.verdict.proofs.Turned.{imaginary_some, turned-all}
 use Rattle.verdict.proofs.preimages.normalised.Goals as goal
 
 pub signed-v-requires : goal.signed-v-requires
-signed-v-requires c = let s = c.before.before in (s.requires.2, s.requires.3)
+signed-v-requires c = let s = c in (s.requires.2, s.requires.3)
 
 pub returns-then-first_positive : goal.returns-then-first_positive
 returns-then-first_positive c =
-    let s = c.before.before.before in
+    let s = c in
     let t = c.signed-v.ensures in (
       record {
         unit = t.unit;
@@ -51,7 +51,7 @@ turned_moves w v e n z =
 
 pub signed-v-requires-2 : goal.signed-v-requires-2
 signed-v-requires-2 c =
-    let s = c.before.before.before.before in
+    let s = c in
     let e = c.turned_quadratic.ensures in
     (turned-all (quadratic s.args.w) (quadratic c.turned_quadratic.result) e s.requires.2, turned_moves (quadratic s.args.w) (quadratic c.turned_quadratic.result) e s.requires.3)
 
@@ -63,8 +63,8 @@ turned-square u e =
 
 pub returns : goal.returns
 returns c =
-    let v = c.before in
-    let s = v.before.before.before.before in
+    let v = c in
+    let s = v in
     let w = quadratic s.args.w in
     let t = c.signed-v-2.ensures in
     let no = subst (Tells (FirstPositive s.args.k.re s.args.k.im)) v.if-first_positive.false v.first_positive.ensures in

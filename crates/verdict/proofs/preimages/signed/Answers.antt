@@ -29,13 +29,13 @@ turned_quadratic-requires c = c.requires.0
 
 pub turned_quadratic-requires-2 : goal.turned_quadratic-requires-2
 turned_quadratic-requires-2 c =
-    let s = c.before.before.before in
+    let s = c in
     turned-all (quadratic s.args.w) (quadratic c.turned_quadratic.result) c.turned_quadratic.ensures s.requires.0
 
 pub returns : goal.returns
 returns c =
-    let t = c.before in
-    let s = t.before.before.before in
+    let t = c in
+    let s = t in
     let w = quadratic s.args.w in
     let f = turned-twice w (quadratic t.turned_quadratic.result) (quadratic c.turned_quadratic-2.result) t.turned_quadratic.ensures c.turned_quadratic-2.ensures in
     let no = subst (Tells (LeadKept w)) t.if-lead_positive.false t.lead_positive.ensures in

@@ -12,6 +12,8 @@ use Rattle.whole.proofs.Wholes.{readℤ}
 use Rattle.whole.proofs.Bound.{done, ◌▸◌, bounds, fits, kept}
 use Rattle.root.specs.Promise.{octic}
 use Rattle.verdict.proofs.roots.added.Goals as goal
+use Rattle.verdict.proofs.roots.added.Lts as at
+use Rattle.verdict.proofs.roots.added.Reads as reads
 
 -- one coefficient
 module _ {x y : ℤ} (h : Within norm_size x) (k : Within norm_size y) where
@@ -23,7 +25,7 @@ module _ {x y : ℤ} (h : Within norm_size x) (k : Within norm_size y) where
 
 -- all numbers are at hand
 module _ (c : goal.After-struct_told-18-1) where
-  abbrev o : goal.Start
+  abbrev o : at.Start reads.Pre reads.Post
   o = c.before.before.before.before.before.before.before.before.before.before.before.before.before.before.before.before.before.before
 
   numbers_fit : (k : ℕ) → SFits w64 (to_z w64 (of_z w64 (at wholes (octic o.args.a) k)) +ℤ to_z w64 (of_z w64 (at wholes (octic o.args.b) k)))

@@ -18,9 +18,11 @@ use Rattle.root.specs.declared.Octic.{Octic}
 use Rattle.root.specs.Promise.{octic, Sized}
 use Rattle.verdict.proofs.Contents.{content-sized}
 use Rattle.verdict.proofs.roots.content.Goals as goal
+use Rattle.verdict.proofs.roots.content.Lts as at
+use Rattle.verdict.proofs.roots.content.Reads as reads
 
 module _ (c : goal.After-gcd_all) where
-  abbrev o : goal.Start
+  abbrev o : at.Start reads.Pre reads.Post
   o = c.before.before.before
 
   abbrev n : Octic

@@ -24,7 +24,7 @@ square-requires c = slight_small (quartic c.reals.result) (re_slight c)
 
 module _ (c : goal.After-imaginaries) where
   im_slight : Slight (quartic c.imaginaries.result)
-  im_slight = let s = c.before.before.before in subst Slight (sym c.imaginaries.ensures) (parts_slight s.args.e s.requires).1
+  im_slight = let s = c in subst Slight (sym c.imaginaries.ensures) (parts_slight s.args.e s.requires).1
 
 pub square-requires-2 : goal.square-requires-2
 square-requires-2 c = slight_small (quartic c.imaginaries.result) (im_slight c)
@@ -40,8 +40,8 @@ added-requires c =
 pub returns : goal.returns
 unfolding norm_polynomial
 returns c k =
-    let i = c.before.before in
-    let r = i.before.before in
+    let i = c in
+    let r = i in
     let e = leg_powers r.args.e in
     let m = i.square.result in
     let n = c.square-2.result in

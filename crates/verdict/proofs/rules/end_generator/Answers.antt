@@ -22,6 +22,8 @@ use Rattle.verdict.proofs.RulesMet.{cubic-root, quintic_preimage_end}
 use Rattle.verdict.proofs.Quintics.{quintic_rule_end}
 use Rattle.verdict.proofs.Decided.{cubic-found}
 use Rattle.verdict.proofs.rules.end_generator.Goals as goal
+use Rattle.verdict.proofs.rules.end_generator.Lts as at
+use Rattle.verdict.proofs.rules.end_generator.Reads as reads
 
 pub returns-then-not-is_zero : goal.returns-then-not-is_zero
 returns-then-not-is_zero c κ w g =
@@ -40,12 +42,12 @@ line_generator-requires c =
     (rw c.multiple.ensures (wider (lit≤ tt) (multiple-within 6 h.0)), rw c.multiple-2.ensures (wider (lit≤ tt) (multiple-within 2 h.1)), wider (lit≤ tt) h.2)
 
 -- ---- with what the line says
-module _ (c : goal.After-line_generator) where
+module _ (c : at.After-line_generator reads.Pre reads.Post) where
   abbrev o : goal.Start
   o = c.before.before.before.before.before
 
   d1-none : o.args.d1 ≡ pairs.none
-  d1-none = let z = c.before.before.before in told z.is_zero.result z.is_zero.ensures z.if-not-is_zero.false-raw
+  d1-none = let z = c in told z.is_zero.result z.is_zero.ensures z.if-not-is_zero.false-raw
 
   abbrev E : List Pair
   E = power_form (multiple (pos 6) o.args.d2 ∷ multiple (pos 2) o.args.d3 ∷ o.args.d4 ∷ [])
@@ -71,7 +73,7 @@ shifted u z (suc (suc (suc (suc k)))) = refl
 
 pub returns : goal.returns
 returns c =
-    let known = c.before.before.before.before in
+    let known = c in
     let t = known.before.before.before in
     let a = (o t).args in
     let s : Generator = known.in-Found.s in

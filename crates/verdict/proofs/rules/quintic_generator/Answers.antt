@@ -17,13 +17,15 @@ use Rattle.verdict.specs.Steps.{IsGeneration, IsMiddle}
 use Rattle.verdict.proofs.Quintics.{quintic_rule}
 use Rattle.verdict.proofs.Decided.{quintic-not}
 use Rattle.verdict.proofs.rules.quintic_generator.Goals as goal
+use Rattle.verdict.proofs.rules.quintic_generator.Lts as at
+use Rattle.verdict.proofs.rules.quintic_generator.Reads as reads
 
 pub end_generator-requires : goal.end_generator-requires
 end_generator-requires c = let h = c.requires in (h 2, h 3, h 4)
 
 pub returns-then-is_zero : goal.returns-then-is_zero
 returns-then-is_zero c =
-    let s = c.before.before.before in
+    let s = c in
     let a = s.args in
     let z = subst (Tells (a.d0 ≡ pairs.none)) c.if-is_zero.true c.is_zero.ensures in
     subst (λ d. IsGeneration (power_form (d ∷ a.d1 ∷ a.d2 ∷ a.d3 ∷ a.d4 ∷ [])) c.end_generator.result) (sym z) c.end_generator.ensures
@@ -56,7 +58,7 @@ middle_of-requires c = let h = (o c).requires in (h 0, h 1, h 2, some c)
 
 pub returns-in_default : goal.returns-in_default
 returns-in_default c κ w g =
-    let t = c.before.before in
+    let t = c in
     let s = t.before in
     subst (IsMiddle (d0 s) (d1 s) (d2 s)) c.in_default.is t.middle_of.ensures (d3 s) (d4 s) _ ((o s).requires 4) (quintic_rule (d0 s) (d1 s) (d2 s) (d3 s) (d4 s) κ w g)
 
@@ -78,7 +80,7 @@ pub product-requires-2 : goal.product-requires-2
 product-requires-2 c = let h = (o (s c.before)).requires in (wider (lit≤ tt) (h 0), wider (lit≤ tt) (h 3))
 
 -- ---- what the first test says of the rule
-module _ (c : goal.After-equal) where
+module _ (c : at.After-equal reads.Pre reads.Post) where
   abbrev k : goal.In-Found
   k = c.before.before.before
 
@@ -98,11 +100,11 @@ pub product-requires-4 : goal.product-requires-4
 product-requires-4 c = let h = (o (s (k c.before.before))).requires in (wider (lit≤ tt) (h 0), wider (lit≤ tt) (h 4))
 
 -- ---- what the second test says
-module _ (c : goal.After-equal-2) where
+module _ (c : at.After-equal2 reads.Pre reads.Post) where
   abbrev third : goal.Else-not-equal
   third = c.before.before.before
 
-  abbrev q : goal.After-equal
+  abbrev q : at.After-equal reads.Pre reads.Post
   q = third.before
 
   fourth-is : Tells (times (m (k q)) (m (k q)) ≡ times (d0 (s (k q))) (d4 (s (k q)))) c.equal-2.result

@@ -5,9 +5,11 @@ use Rattle.whole.proofs.Wholes.{readℤ}
 use Rattle.whole.proofs.Bound.{Bounded, bounds, fits, kept}
 use Rattle.pair.proofs.Parts.{parts_two}
 use Rattle.verdict.proofs.speeds.dot.Goals as goal
+use Rattle.verdict.proofs.speeds.dot.Lts as at
+use Rattle.verdict.proofs.speeds.dot.Reads as reads
 
 module _ (c : goal.After-struct_told-4-1) where
-  abbrev s : goal.Start
+  abbrev s : at.Start reads.Pre reads.Post
   s = c.before.before.before.before
 
   sizes : Bounded (20000 ∷ 20000 ∷ 20000 ∷ 20000 ∷ []) (s.args.a.re ∷ s.args.a.im ∷ s.args.b.re ∷ s.args.b.im ∷ [])

@@ -16,8 +16,10 @@ use Rattle.pair.proofs.Parts.{wider}
 use Rattle.verdict.specs.declared.Quadratic.{Quadratic}
 use Rattle.curve.specs.Curves.{norm_polynomial}
 use Rattle.verdict.proofs.speeds.speed.Goals as goal
+use Rattle.verdict.proofs.speeds.speed.Lts as at
+use Rattle.verdict.proofs.speeds.speed.Reads as reads
 
-module _ (s : goal.Start) where
+module _ (s : at.Start reads.Pre reads.Post) where
   abbrev w : Quadratic
   w = s.args.w
 
@@ -25,13 +27,13 @@ module _ (s : goal.Start) where
   sizes = (s.requires 0).re ▸ (s.requires 0).im ▸ (s.requires 1).re ▸ (s.requires 1).im ▸ (s.requires 2).re ▸ (s.requires 2).im ▸ done
 
 -- the start of the function, from the places on the way
-abbrev o1 : goal.After-norm → goal.Start
+abbrev o1 : goal.After-norm → (at.Start reads.Pre reads.Post)
 o1 c = c.before.before.before.before
 
-abbrev o2 : goal.After-norm-2 → goal.Start
+abbrev o2 : goal.After-norm-2 → (at.Start reads.Pre reads.Post)
 o2 c = o1 c.before.before.before
 
-abbrev o3 : goal.After-norm-3 → goal.Start
+abbrev o3 : goal.After-norm-3 → (at.Start reads.Pre reads.Post)
 o3 c = o2 c.before.before
 
 pub norm-requires : goal.norm-requires
