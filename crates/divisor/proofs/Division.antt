@@ -165,7 +165,7 @@ divisor_within {d} h n k = quotient-within k.factor d h (λ z. n (sym k.is ∙ a
 -- ---- nearest quotients
 pub nearest_once : (a b p q : Pair) → NearestPair a b p → NearestPair a b q → p ≡ q
 nearest_once a b p q h k =
-    pair-equal (whole.nearest-once _ _ p.re q.re h.re k.re) (whole.nearest-once _ _ p.im q.im h.im k.im)
+    pair-equal (whole.nearest_once _ _ p.re q.re h.re k.re) (whole.nearest_once _ _ p.im q.im h.im k.im)
 
 -- |q| ≤ B, where |x| ≤ B d and q leaves less than d over
 pub part-within : {B : ℕ} {x q : ℤ} (d : ℤ) → Within (B * nat_abs d) x → nat_abs (x -ℤ q *ℤ d) < nat_abs d → Within B q

@@ -10,8 +10,9 @@ use borrow.Author.Rules.{rules}
 use Rattle.box_report.proofs.report_box.Goals as goal
 use Rattle.box_report.proofs.report_box.Lts as at
 use Rattle.box_report.proofs.report_box.Reads as reads
+use Rattle.box_report.proofs.report_box.Tie as tie
 
-text_long : (c : at.After-take_files reads.Pre reads.Post) → 512 ≤ length c.take_files-s.new.1.1.0
+text_long : (c : at.After-take_files tie.the-claims reads.Pre reads.Post) → 512 ≤ length c.take_files-s.new.1.1.0
 text_long c = omega (arith, c.take_files-s.auto.1.1.0, c.requires.text_long)
 
 pub lines_of-end-requires : goal.lines_of-end-requires

@@ -10,6 +10,7 @@ use Rattle.build.proofs.Answers.{refused_range, refused-still, answered}
 use Rattle.build.proofs.build_cubic.Goals as goal
 use Rattle.build.proofs.build_cubic.Lts as at
 use Rattle.build.proofs.build_cubic.Reads as reads
+use Rattle.build.proofs.build_cubic.Tie as tie
 
 module _ (c : goal.Start) where
   abbrev p0 : Pair
@@ -18,10 +19,10 @@ module _ (c : goal.Start) where
   abbrev s : Source
   s = cubic c.args.w0 c.args.w1
 
-allowed_tells : (c : at.After-allowed reads.Pre reads.Post) → Tells (Allowed (p0 c.before) (pairs_of (s c.before))) c.allowed.result
+allowed_tells : (c : at.After-allowed tie.the-claims reads.Pre reads.Post) → Tells (Allowed (p0 c.before) (pairs_of (s c.before))) c.allowed.result
 allowed_tells c = let a = c.args in allowed_two a.w0 a.w1 a.p0 c.allowed.result c.allowed.ensures
 
-zero_tells : (c : at.After-three_are_zero reads.Pre reads.Post) → Tells (AllZero (pairs_of (s c.before.before.before))) c.three_are_zero.result
+zero_tells : (c : at.After-three_are_zero tie.the-claims reads.Pre reads.Post) → Tells (AllZero (pairs_of (s c.before.before.before))) c.three_are_zero.result
 zero_tells c = let a = c.args in none_two a.w0 a.w1 c.three_are_zero.result c.three_are_zero.ensures
 
 pub returns-then-not-allowed : goal.returns-then-not-allowed

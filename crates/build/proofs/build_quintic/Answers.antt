@@ -15,6 +15,7 @@ use Rattle.build.proofs.Answers.{refused_range, refused-still, refused_thirds, a
 use Rattle.build.proofs.build_quintic.Goals as goal
 use Rattle.build.proofs.build_quintic.Lts as at
 use Rattle.build.proofs.build_quintic.Reads as reads
+use Rattle.build.proofs.build_quintic.Tie as tie
 
 module _ (c : goal.Start) where
   abbrev p0 : Pair
@@ -47,7 +48,7 @@ over_whole-requires c = omega linear
 abbrev o : goal.Else-three_are_zero → goal.Start
 o c = c.before.before.before.before
 
-third-is : (c : at.After-over_whole reads.Pre reads.Post) → IsOverWhole (t (o c.before.before)) (pos 3) c.over_whole.result
+third-is : (c : at.After-over_whole tie.the-claims reads.Pre reads.Post) → IsOverWhole (t (o c.before.before)) (pos 3) c.over_whole.result
 third-is c = subst (λ (x : Pair). IsOverWhole x (pos 3) c.over_whole.result) c.thrice_middle.ensures c.over_whole.ensures
 
 pub returns-in_default : goal.returns-in_default

@@ -13,9 +13,10 @@ use borrow.Author.Rules.{rules}
 use Rattle.cable.proofs.line_in.Goals as goal
 use Rattle.cable.proofs.line_in.Lts as at
 use Rattle.cable.proofs.line_in.Reads as reads
+use Rattle.cable.proofs.line_in.Tie as tie
 
 -- what is told of the bytes, by its case
-told_of_lem : (c : at.After-ask reads.Pre reads.Post) {x : Told} → c.ask-told.result ≡ x → (s : List ℕ) → IsOf c.args.state s false → Says s x
+told_of_lem : (c : at.After-ask tie.the-claims reads.Pre reads.Post) {x : Told} → c.ask-told.result ≡ x → (s : List ℕ) → IsOf c.args.state s false → Says s x
 told_of_lem c e s h =
     let end = c in
     subst (Says s) e (says end.args.state end.end-ended.result c.ask-told.result end.end-ended.ensures c.ask-told.ensures s h)

@@ -18,7 +18,7 @@ returns-in-Cubic c =
     inr (
       cubic v.0.0 v.0.1.0,
       subst (IsSource _) v.1 k.source_in.ensures,
-      handed r.result (simp (to_z-of_z, s.x, s.y) at r.ensures) refl c.hand_built.type-inv c.hand_built.ensures,
+      handed r.result (simp (to_z-of_z, s.x, s.y) at r.ensures) refl c.hand_built.type_inv c.hand_built.ensures,
     )
 
 pub returns-in-Quintic : goal.returns-in-Quintic
@@ -30,10 +30,10 @@ returns-in-Quintic c =
     inr (
       quintic v.0.0 v.0.1.0 v.0.1.1.0,
       subst (IsSource _) v.1 k.source_in.ensures,
-      handed r.result (simp (to_z-of_z, s.x, s.y) at r.ensures) refl c.hand_built-in-Quintic.type-inv c.hand_built-in-Quintic.ensures,
+      handed r.result (simp (to_z-of_z, s.x, s.y) at r.ensures) refl c.hand_built-in-Quintic.type_inv c.hand_built-in-Quintic.ensures,
     )
 
 pub returns-in-WrongCount : goal.returns-in-WrongCount
 returns-in-WrongCount c =
     let k = c in
-    inl (subst (IsSource _) k.in-WrongCount.is k.source_in.ensures, hands_same refl c.refused.type-inv c.refused.ensures)
+    inl (subst (IsSource _) k.in-WrongCount.is k.source_in.ensures, hands_same refl c.refused.type_inv c.refused.ensures)

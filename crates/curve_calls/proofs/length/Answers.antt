@@ -9,11 +9,11 @@ pub returns-in_default : goal.returns-in_default
 returns-in_default c =
     let k = c in
     wrong-count k.curve_in.ensures k.in_default.is
-    (hands_same refl c.refused.type-inv c.refused.ensures)
+    (hands_same refl c.refused.type_inv c.refused.ensures)
 
 pub returns : goal.returns
 returns c =
     let k = c in
     let r = c.length in
     right_count k.curve_in.ensures k.in-Curve.curve k.in-Curve.is
-    (handed r.result r.ensures refl c.hand_length.type-inv c.hand_length.ensures)
+    (handed r.result r.ensures refl c.hand_length.type_inv c.hand_length.ensures)

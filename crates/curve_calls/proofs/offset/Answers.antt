@@ -23,7 +23,7 @@ pub returns-in_default : goal.returns-in_default
 returns-in_default c =
     let k = c in
     wrong-count k.curve_in.ensures k.in_default.is
-    (hands_same refl c.refused.type-inv c.refused.ensures)
+    (hands_same refl c.refused.type_inv c.refused.ensures)
 
 pub returns : goal.returns
 returns c =
@@ -31,4 +31,4 @@ returns c =
     let s = k in
     let r = c.offset in
     right_count k.curve_in.ensures k.in-Curve.curve k.in-Curve.is
-    (r.result, stored_distance s.args.h s.ranges.h k.in-Curve.curve r.result r.ensures, settled c.offset_count.type-inv c.offset_count.ensures)
+    (r.result, stored_distance s.args.h s.ranges.h k.in-Curve.curve r.result r.ensures, settled c.offset_count.type_inv c.offset_count.ensures)

@@ -25,9 +25,10 @@ use Rattle.divisor.proofs.Halves.{half_small, half_nonneg, half-found, norm-root
 use Rattle.divisor.proofs.candidate.Goals as goal
 use Rattle.divisor.proofs.candidate.Lts as at
 use Rattle.divisor.proofs.candidate.Reads as reads
+use Rattle.divisor.proofs.candidate.Tie as tie
 
 module _ (c : goal.After-struct_told-2-1) where
-  abbrev s : at.Start reads.Pre reads.Post
+  abbrev s : at.Start tie.the-claims reads.Pre reads.Post
   s = c.before.before
 
   abbrev z : Pair
@@ -63,7 +64,7 @@ overflow_add-m c = rw (n-is c, x-is c) (fits_within (lit< tt) (plus-within c))
 pub half_root-u-requires : goal.half_root-u-requires
 half_root-u-requires c = rw (n-is c, x-is c, read_back tt (plus-within c)) (plus_nonneg (z c) (n c) (s c).requires.1, plus-within c)
 
-module _ (c : at.After-half_root reads.Pre reads.Post) where
+module _ (c : at.After-half_root tie.the-claims reads.Pre reads.Post) where
   abbrev t : goal.After-struct_told-2-1
   t = c.before
 
@@ -90,7 +91,7 @@ pub half_root-requires : goal.half_root-requires
 half_root-requires c = let t = c.before.before in rw (n-is t, x-is t, read_back tt (minus-within t)) (minus_nonneg (z t) (n t) (s t).requires.1, minus-within t)
 
 module _ (c : goal.Else-u-eq0) where
-  abbrev b : at.After-half_root reads.Pre reads.Post
+  abbrev b : at.After-half_root tie.the-claims reads.Pre reads.Post
   b = c.before
 
   abbrev y : ℤ

@@ -58,5 +58,5 @@ pub returns : goal.returns
 returns c =
     let l = c.loop-y in
     let s = c.args in
-    let z : l.y ≡ pairs.none = norm-zero l.y (sym c.norm.ensures ∙ same_bits (record { sfits = c.norm.type-inv }) (sfits_lit tt) c.loop-y-test.false) in
+    let z : l.y ≡ pairs.none = norm-zero l.y (sym c.norm.ensures ∙ same_bits (record { sfits = c.norm.type_inv }) (sfits_lit tt) c.loop-y-test.false) in
     greatest_is pairs_ring (λ d. Iff.trans (with_zero d l.x l.y z) (Iff.trans (l.invariant.2 d) (Iff.symm (common_two pairs_ring d s.a s.b))))

@@ -14,11 +14,12 @@ use Rattle.divisor.proofs.Rounding.{nearest-near, rounded-near}
 use Rattle.divisor.proofs.near.Goals as goal
 use Rattle.divisor.proofs.near.Lts as at
 use Rattle.divisor.proofs.near.Reads as reads
+use Rattle.divisor.proofs.near.Tie as tie
 
 pub returns-then-d-gt-NEAR_NORM : goal.returns-then-d-gt-NEAR_NORM
 returns-then-d-gt-NEAR_NORM c = let h = c.requires in nearest-near h.0 h.1 h.2 c.nearest.ensures
 
-d-is : (c : at.After-norm reads.Pre reads.Post) → to_z w64 (of_z w64 c.norm-d.result) ≡ norm c.args.b
+d-is : (c : at.After-norm tie.the-claims reads.Pre reads.Post) → to_z w64 (of_z w64 c.norm-d.result) ≡ norm c.args.b
 d-is c = to_z-of_z w64 _ (search rules) ∙ c.norm-d.ensures
 
 small : (c : goal.Else-d-gt-NEAR_NORM) → nat_abs (norm c.args.b) ≤ 2 ^ 36

@@ -14,6 +14,7 @@ use Rattle.pair.proofs.Parts.{pair-equal}
 use Rattle.divisor.proofs.over_whole.Goals as goal
 use Rattle.divisor.proofs.over_whole.Lts as at
 use Rattle.divisor.proofs.over_whole.Reads as reads
+use Rattle.divisor.proofs.over_whole.Tie as tie
 
 abbrev bits : ℤ → ℤ
 bits x = to_z w64 (of_z w64 x)
@@ -23,7 +24,7 @@ divisible : (x : ℤ) {n : ℤ} → pos 0 <ℤ n → Divisible x n
 divisible x h = record { nonzero = λ e. omega linear; not_least = λ e f. omega linear }
 
 module _ (c : goal.After-struct_told-2-1) where
-  abbrev o : at.Start reads.Pre reads.Post
+  abbrev o : at.Start tie.the-claims reads.Pre reads.Post
   o = c.before.before
 
   n-is : bits o.args.n ≡ o.args.n

@@ -12,4 +12,4 @@ shape_of-area c = search rules
 pub returns : goal.returns
 returns c =
     let s = c.args in
-    hands_refused s.f c.clear.ensures (shape_of-area c) (to_z-of_z w64 _ (record { sfits = c.coded.type-inv }) ∙ c.coded.ensures)
+    hands_refused s.f c.clear.ensures (shape_of-area c) (to_z-of_z w64 _ (record { sfits = c.coded.type_inv }) ∙ c.coded.ensures)

@@ -13,7 +13,7 @@ pub returns-then-area-n : goal.returns-then-area-n
 returns-then-area-n c =
     let refused = c in
     let tested = refused in
-    hands_short tested.args.values.now tested.if-area-n.true (hands_same refl refused.refused.type-inv refused.refused.ensures)
+    hands_short tested.args.values.now tested.if-area-n.true (hands_same refl refused.refused.type_inv refused.refused.ensures)
 
 pub shape_of-area : goal.shape_of-area
 shape_of-area c = search rules

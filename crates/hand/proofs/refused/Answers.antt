@@ -6,4 +6,4 @@ use Rattle.hand.proofs.Areas.{hands_same}
 use Rattle.hand.proofs.refused.Goals as goal
 
 pub returns : goal.returns
-returns c = hands_same (ap answer.refused c.nowhere.ensures) c.faulted.type-inv c.faulted.ensures
+returns c = hands_same (ap answer.refused c.nowhere.ensures) c.faulted.type_inv c.faulted.ensures

@@ -24,6 +24,7 @@ use Rattle.join.proofs.Writing.{numbers-length}
 use Rattle.join.proofs.joins.Goals as goal
 use Rattle.join.proofs.joins.Lts as at
 use Rattle.join.proofs.joins.Reads as reads
+use Rattle.join.proofs.joins.Tie as tie
 
 -- a refusal clears the area
 shut : (a z T : Pair) (before after : List ℤ) (r : Refusal) (s : JoinAnswer) → Cleared before after × (s ≡ answers.Refused r)
@@ -48,7 +49,7 @@ returns-then-is_dead_end c =
     shut s.args.a s.args.z s.args.t s.args.area.now c.refused-then-is_dead_end.new.0 R.DeadEnd c.refused-then-is_dead_end.result c.refused-then-is_dead_end.ensures
     (inr (λ n. n (ranged e), inl (subst (Tells _) i.if-is_dead_end.true i.is_dead_end.ensures, refl)))
 
-alive : (c : at.Else2 reads.Pre reads.Post) → DeadEnd c.args.a c.args.z → ⊥
+alive : (c : at.Else2 tie.the-claims reads.Pre reads.Post) → DeadEnd c.args.a c.args.z → ⊥
 alive c = subst (Tells _) c.if-is_dead_end.false c.is_dead_end.ensures
 
 pub returns-then-area-lt24 : goal.returns-then-area-lt24

@@ -14,6 +14,7 @@ use Rattle.join.proofs.Writing.{writes_none, writes_as, writes_same}
 use Rattle.join.proofs.put_all.Goals as goal
 use Rattle.join.proofs.put_all.Lts as at
 use Rattle.join.proofs.put_all.Reads as reads
+use Rattle.join.proofs.put_all.Tie as tie
 
 pub returns-in_default : goal.returns-in_default
 returns-in_default c = writes_none (λ w j. subst (IsPairRoot _) c.in_default.is c.root.ensures w.w0 j.first)
@@ -22,7 +23,7 @@ pub returns-in_default-root : goal.returns-in_default-root
 returns-in_default-root c = writes_none (λ w j. subst (IsPairRoot _) c.in_default-root.is c.root-2.ensures w.w2 j.last)
 
 -- ---- with both roots
-module _ (c : at.After-known_told2 reads.Pre reads.Post) where
+module _ (c : at.After-known_told2 tie.the-claims reads.Pre reads.Post) where
   abbrev k : goal.In-Root
   k = c.before.before.before.before
 

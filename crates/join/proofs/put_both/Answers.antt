@@ -17,6 +17,7 @@ use Rattle.join.proofs.Writing.{writes_none, writes_both, writes_as, writes_same
 use Rattle.join.proofs.put_both.Goals as goal
 use Rattle.join.proofs.put_both.Lts as at
 use Rattle.join.proofs.put_both.Reads as reads
+use Rattle.join.proofs.put_both.Tie as tie
 
 pub root-requires : goal.root-requires
 root-requires c = wider (omega arith) c.requires.0.discriminant
@@ -85,7 +86,7 @@ pub difference-high-requires : goal.difference-high-requires
 difference-high-requires c = let m = c.before.before in (wider (omega arith) (δ-within (k m)), wider (omega arith) (s-within m))
 
 -- ---- with both doubles of the middle
-module _ (c : at.After-difference2 reads.Pre reads.Post) where
+module _ (c : at.After-difference2 tie.the-claims reads.Pre reads.Post) where
   abbrev n : goal.After-negative
   n = c.before.before
 
@@ -125,7 +126,7 @@ put_half-next-requires c =
     (sized_by d (search rules), omega (arith, (o (j d)).requires.1))
 
 -- what was written first
-lower : (c : at.After-put_half reads.Pre reads.Post) → let d = c.before.before in let h = j d in
+lower : (c : at.After-put_half tie.the-claims reads.Pre reads.Post) → let d = c.before.before in let h = j d in
     WritesTriples 1 (Halved (w0 h) (minus (negative (δ h)) (shift (w0 h) (w2 h))) (w2 h)) (o h).args.at (o h).args.area.now c.put_half-next.new.0 c.put_half-next.result
 lower c = let d = c.before.before in writes_same (λ i. Halved (w0 (j d)) (low-is d i) (w2 (j d))) c.put_half-next.ensures
 

@@ -13,6 +13,7 @@ use Rattle.join.proofs.Writing.{writes_both, writes_same}
 use Rattle.join.proofs.put_ends.Goals as goal
 use Rattle.join.proofs.put_ends.Lts as at
 use Rattle.join.proofs.put_ends.Reads as reads
+use Rattle.join.proofs.put_ends.Tie as tie
 
 pub product-requires : goal.product-requires
 product-requires c = let p = c.requires.0 in (wider (omega arith) p.first, wider (omega arith) p.last)
@@ -52,7 +53,7 @@ negative-low-requires c =
     let h = (sized c).last in
     wider {B = root_reach} (omega arith) (search rules)
 
-low-within : (c : at.After-negative reads.Pre reads.Post) → PartsWithin root_reach c.negative-low.result
+low-within : (c : at.After-negative tie.the-claims reads.Pre reads.Post) → PartsWithin root_reach c.negative-low.result
 low-within c =
     let m = c.before in
     let g = negative-within (sized m).first in
@@ -73,11 +74,11 @@ put_both-next-requires c =
     (record { first = search rules; discriminant = d; last = search rules }, omega (arith, (s m).requires.2))
 
 -- ---- with the triples that end in −r written
-module _ (c : at.After-put_both reads.Pre reads.Post) where
+module _ (c : at.After-put_both tie.the-claims reads.Pre reads.Post) where
   abbrev d : goal.After-difference
   d = c.before
 
-  abbrev n : at.After-negative reads.Pre reads.Post
+  abbrev n : at.After-negative tie.the-claims reads.Pre reads.Post
   n = d.before.before
 
   abbrev m : goal.After-multiple-p

@@ -11,9 +11,10 @@ use Rattle.verdict.proofs.FoundSizes.{preimage_small}
 use Rattle.measure.proofs.inflections.Goals as goal
 use Rattle.measure.proofs.inflections.Lts as at
 use Rattle.measure.proofs.inflections.Reads as reads
+use Rattle.measure.proofs.inflections.Tie as tie
 
 -- there is a pre-image
-module _ (c : at.After-known_told reads.Pre reads.Post) where
+module _ (c : at.After-known_told tie.the-claims reads.Pre reads.Post) where
   abbrev curve : Curve
   curve = c.args.curve
 

@@ -11,9 +11,10 @@ use Rattle.verdict.proofs.FoundSizes.{root_small}
 use Rattle.measure.proofs.length.Goals as goal
 use Rattle.measure.proofs.length.Lts as at
 use Rattle.measure.proofs.length.Reads as reads
+use Rattle.measure.proofs.length.Tie as tie
 
 -- there is a pre-image
-module _ (c : at.After-known_told reads.Pre reads.Post) where
+module _ (c : at.After-known_told tie.the-claims reads.Pre reads.Post) where
   abbrev curve : Curve
   curve = c.args.curve
 

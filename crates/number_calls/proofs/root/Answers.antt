@@ -14,8 +14,9 @@ use Rattle.hand.proofs.Handing.{handed}
 use Rattle.number_calls.proofs.root.Goals as goal
 use Rattle.number_calls.proofs.root.Lts as at
 use Rattle.number_calls.proofs.root.Reads as reads
+use Rattle.number_calls.proofs.root.Tie as tie
 
-module _ (c : at.After-square_root reads.Pre reads.Post) where
+module _ (c : at.After-square_root tie.the-claims reads.Pre reads.Post) where
   abbrev found : Root
   found = c.square_root-found.result
 
@@ -36,4 +37,4 @@ returns c =
     let s = c.before.before.before.before.before.before in
     handed (found s) s.square_root-found.ensures
     (ap given (ap₂ (λ (x y : ℤ). x ∷ y ∷ []) (to_z_pos w64 (found s).root (omega (arith, root_small s))) (to_z_pos w64 (found s).rest (omega (arith, rest_small s)))))
-    c.hand.type-inv c.hand.ensures
+    c.hand.type_inv c.hand.ensures

@@ -13,7 +13,7 @@ use Rattle.parts_calls.proofs.Counts.{countable}
 use Rattle.parts_calls.proofs.ask.Goals as goal
 
 pub returns-then-state-lt-NUMBERS : goal.returns-then-state-lt-NUMBERS
-returns-then-state-lt-NUMBERS c = inl (omega (arith, c.if-state-lt-NUMBERS.true), settled c.coded.type-inv (c.coded.ensures ∙ ap (λ (f : Fault). code_of (refused f)) c.nowhere.ensures), refl)
+returns-then-state-lt-NUMBERS c = inl (omega (arith, c.if-state-lt-NUMBERS.true), settled c.coded.type_inv (c.coded.ensures ∙ ap (λ (f : Fault). code_of (refused f)) c.nowhere.ensures), refl)
 
 pub told_code-requires : goal.told_code-requires
 told_code-requires c = countable _ c.ask.result c.ask.ensures
@@ -24,5 +24,5 @@ returns c =
     let read = asked in
     inr (
       omega (arith, read.if-state-lt-NUMBERS.false),
-      (asked.ask.result, subst (λ (st : State). Asks st asked.ask.result) read.state_in.ensures asked.ask.ensures, settled c.told_code.type-inv c.told_code.ensures),
+      (asked.ask.result, subst (λ (st : State). Asks st asked.ask.result) read.state_in.ensures asked.ask.ensures, settled c.told_code.type_inv c.told_code.ensures),
     )

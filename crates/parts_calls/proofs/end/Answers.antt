@@ -15,7 +15,7 @@ use Rattle.parts_calls.proofs.Counts.{countable, told-left}
 use Rattle.parts_calls.proofs.end.Goals as goal
 
 pub returns-then-state-lt-NUMBERS : goal.returns-then-state-lt-NUMBERS
-returns-then-state-lt-NUMBERS c = inl (omega (arith, c.if-state-lt-NUMBERS.true), settled c.coded.type-inv (c.coded.ensures ∙ ap (λ (f : Fault). code_of (refused f)) c.nowhere.ensures), refl)
+returns-then-state-lt-NUMBERS c = inl (omega (arith, c.if-state-lt-NUMBERS.true), settled c.coded.type_inv (c.coded.ensures ∙ ap (λ (f : Fault). code_of (refused f)) c.nowhere.ensures), refl)
 
 -- the state in the area, ended
 ended_is : (c : goal.After-end-ended) → let s = c in EndsSheet (state_in s.args.state.now) c.end-ended.result
@@ -35,7 +35,7 @@ returns-in-Refused c =
         asked.ask-told.result,
         ended_is ended,
         asked.ask-told.ensures,
-        settled c.coded-in-Refused.type-inv (c.coded-in-Refused.ensures ∙ ap (λ (f : Fault). code_of (refused f)) c.nowhere-in-Refused.ensures ∙ sym (ap told_code none)),
+        settled c.coded-in-Refused.type_inv (c.coded-in-Refused.ensures ∙ ap (λ (f : Fault). code_of (refused f)) c.nowhere-in-Refused.ensures ∙ sym (ap told_code none)),
         sym (ap (ended_area before ended.end-ended.result) none),
       ),
     )
@@ -57,7 +57,7 @@ returns c =
         asked.ask-told.result,
         ended_is ended,
         asked.ask-told.ensures,
-        settled c.told_code.type-inv c.told_code.ensures,
+        settled c.told_code.type_inv c.told_code.ensures,
         left.put_state.ensures ∙ sym (told-left before ended.end-ended.result asked.ask-told.result match.match.keys2),
       ),
     )

@@ -14,12 +14,13 @@ use Rattle.parts_calls.specs.Promise.{change_code, fed_area}
 use Rattle.parts_calls.proofs.feed.Goals as goal
 use Rattle.parts_calls.proofs.feed.Lts as at
 use Rattle.parts_calls.proofs.feed.Reads as reads
+use Rattle.parts_calls.proofs.feed.Tie as tie
 
 pub returns-then-state-lt-NUMBERS : goal.returns-then-state-lt-NUMBERS
-returns-then-state-lt-NUMBERS c = inl (omega (arith, c.if-state-lt-NUMBERS.true), settled c.coded.type-inv (c.coded.ensures ∙ ap (λ (f : Fault). code_of (refused f)) c.nowhere.ensures), refl)
+returns-then-state-lt-NUMBERS c = inl (omega (arith, c.if-state-lt-NUMBERS.true), settled c.coded.type_inv (c.coded.ensures ∙ ap (λ (f : Fault). code_of (refused f)) c.nowhere.ensures), refl)
 
 -- what the library answers for the state in the area
-fed_is : (c : at.After-feed reads.Pre reads.Post) → let s = c.before.before.before.before.before in Feeds (state_in s.args.state.now) s.args.part.now c.feed-fed.result
+fed_is : (c : at.After-feed tie.the-claims reads.Pre reads.Post) → let s = c.before.before.before.before.before in Feeds (state_in s.args.state.now) s.args.part.now c.feed-fed.result
 fed_is c =
     let s = c.before.before.before.before.before in
     subst (λ (st : State). Feeds st s.args.part.now c.feed-fed.result) c.state_in.ensures c.feed-fed.ensures
@@ -45,5 +46,5 @@ returns-in-Refused c =
     let before = fed.args.state.now in
     inr (
       omega (arith, fed.if-state-lt-NUMBERS.false),
-      (x, fed_is fed, settled c.coded-in-Refused.type-inv (c.coded-in-Refused.ensures ∙ sym (ap change_code not_done)), sym (ap (fed_area before x.state) not_done)),
+      (x, fed_is fed, settled c.coded-in-Refused.type_inv (c.coded-in-Refused.ensures ∙ sym (ap change_code not_done)), sym (ap (fed_area before x.state) not_done)),
     )

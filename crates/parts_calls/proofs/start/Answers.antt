@@ -10,7 +10,7 @@ use Rattle.hand.specs.Promise.{coded as code_of}
 use Rattle.parts_calls.proofs.start.Goals as goal
 
 pub returns-then-state-lt-NUMBERS : goal.returns-then-state-lt-NUMBERS
-returns-then-state-lt-NUMBERS c = inl (omega (arith, c.if-state-lt-NUMBERS.true), settled c.coded.type-inv (c.coded.ensures ∙ ap (λ (f : Fault). code_of (refused f)) c.nowhere.ensures), refl)
+returns-then-state-lt-NUMBERS c = inl (omega (arith, c.if-state-lt-NUMBERS.true), settled c.coded.type_inv (c.coded.ensures ∙ ap (λ (f : Fault). code_of (refused f)) c.nowhere.ensures), refl)
 
 pub returns : goal.returns
 returns c =

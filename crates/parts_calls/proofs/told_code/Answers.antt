@@ -34,7 +34,7 @@ pub returns-in-Refused-checked : goal.returns-in-Refused-checked
 returns-in-Refused-checked c =
     let k = c in
     let t = k in
-    settled c.coded.type-inv (c.coded.ensures ∙ sym (ap told_code (t.in-Sheet.is ∙ ap told.Sheet k.in-Refused-checked.is)))
+    settled c.coded.type_inv (c.coded.ensures ∙ sym (ap told_code (t.in-Sheet.is ∙ ap told.Sheet k.in-Refused-checked.is)))
 
 pub returns-in-NotEnded : goal.returns-in-NotEnded
 returns-in-NotEnded c = sym (ap told_code c.in-NotEnded.is)
@@ -42,4 +42,4 @@ returns-in-NotEnded c = sym (ap told_code c.in-NotEnded.is)
 pub returns-in-Refused : goal.returns-in-Refused
 returns-in-Refused c =
     let t = c in
-    settled c.coded-in-Refused.type-inv (c.coded-in-Refused.ensures ∙ ap (λ (f : Fault). code_of (refused f)) c.nowhere.ensures ∙ sym (ap told_code t.in-Refused.is))
+    settled c.coded-in-Refused.type_inv (c.coded-in-Refused.ensures ∙ ap (λ (f : Fault). code_of (refused f)) c.nowhere.ensures ∙ sym (ap told_code t.in-Refused.is))

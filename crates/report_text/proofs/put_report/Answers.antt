@@ -13,9 +13,10 @@ use Rattle.report_text.specs.Steps.{WritesReport}
 use Rattle.report_text.proofs.put_report.Goals as goal
 use Rattle.report_text.proofs.put_report.Lts as at
 use Rattle.report_text.proofs.put_report.Reads as reads
+use Rattle.report_text.proofs.put_report.Tie as tie
 
 -- what the check answers, by its case
-checked : (c : at.After-check reads.Pre reads.Post) {x : Checked} → c.check.result ≡ x → answer_of_checked x ≡ with_given told_of (outcome c.args.sheet.now)
+checked : (c : at.After-check tie.the-claims reads.Pre reads.Post) {x : Checked} → c.check.result ≡ x → answer_of_checked x ≡ with_given told_of (outcome c.args.sheet.now)
 checked c e = sym (ap answer_of_checked e) ∙ c.check.ensures
 
 pub put_sound-requires : goal.put_sound-requires

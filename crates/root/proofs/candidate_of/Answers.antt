@@ -30,9 +30,10 @@ use Rattle.root.proofs.Downward.{rest, Step, Begun, begun_none, begun_more, sear
 use Rattle.root.proofs.candidate_of.Goals as goal
 use Rattle.root.proofs.candidate_of.Lts as at
 use Rattle.root.proofs.candidate_of.Reads as reads
+use Rattle.root.proofs.candidate_of.Tie as tie
 
 module _ (c : goal.After-struct_told-4-1) where
-  abbrev o : at.Start reads.Pre reads.Post
+  abbrev o : at.Start tie.the-claims reads.Pre reads.Post
   o = c.before.before.before.before
 
   abbrev M : List ℤ
@@ -69,7 +70,7 @@ pub coefficient_of-requires : goal.coefficient_of-requires
 coefficient_of-requires c = divisible c _
 
 -- ---- the third power
-told₃ : (c : at.After-coefficient_of reads.Pre reads.Post) → Step (M c.before) (s c.before) [] 3 c.coefficient_of.result
+told₃ : (c : at.After-coefficient_of tie.the-claims reads.Pre reads.Post) → Step (M c.before) (s c.before) [] 3 c.coefficient_of.result
 told₃ c = step c.before [] 3 c.coefficient_of.result (read_back tt ((o c.before).requires.0 7) ∙ sym (+ℤ_idr _)) c.coefficient_of.ensures
 
 pub returns-in_default : goal.returns-in_default
@@ -101,7 +102,7 @@ pub coefficient_of-requires-2 : goal.coefficient_of-requires-2
 coefficient_of-requires-2 c = divisible (place₃ c) _
 
 -- ---- the second power
-module _ (c : at.After-coefficient_of2 reads.Pre reads.Post) where
+module _ (c : at.After-coefficient_of2 tie.the-claims reads.Pre reads.Post) where
   abbrev known₃ : List ℤ
   known₃ = pos 0 ∷ pos 0 ∷ pos 0 ∷ q₃ c.before ∷ []
 
@@ -148,7 +149,7 @@ pub coefficient_of-requires-3 : goal.coefficient_of-requires-3
 coefficient_of-requires-3 c = divisible (place₂ c) _
 
 -- ---- the first power
-module _ (c : at.After-coefficient_of3 reads.Pre reads.Post) where
+module _ (c : at.After-coefficient_of3 tie.the-claims reads.Pre reads.Post) where
   abbrev known₂ : List ℤ
   known₂ = pos 0 ∷ pos 0 ∷ q₂ c.before ∷ q₃ (after₃ c.before) ∷ []
 
@@ -201,7 +202,7 @@ pub coefficient_of-requires-4 : goal.coefficient_of-requires-4
 coefficient_of-requires-4 c = divisible (place₁ c) _
 
 -- ---- the constant
-module _ (c : at.After-coefficient_of4 reads.Pre reads.Post) where
+module _ (c : at.After-coefficient_of4 tie.the-claims reads.Pre reads.Post) where
   abbrev known₁ : List ℤ
   known₁ = pos 0 ∷ q₁ c.before ∷ q₂ (after₂ c.before) ∷ q₃ (after₃ (after₂ c.before)) ∷ []
 

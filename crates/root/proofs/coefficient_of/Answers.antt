@@ -10,18 +10,19 @@ use Rattle.whole.specs.Promise.{IsQuotient}
 use Rattle.root.proofs.coefficient_of.Goals as goal
 use Rattle.root.proofs.coefficient_of.Lts as at
 use Rattle.root.proofs.coefficient_of.Reads as reads
+use Rattle.root.proofs.coefficient_of.Tie as tie
 
 pub quotient-requires : goal.quotient-requires
 quotient-requires c = simp (to_z-of_z, c.ranges.n, c.ranges.t) c.requires
 
-answer : (c : at.After-quotient reads.Pre reads.Post) → IsQuotient c.args.n c.args.t c.quotient.result
+answer : (c : at.After-quotient tie.the-claims reads.Pre reads.Post) → IsQuotient c.args.n c.args.t c.quotient.result
 answer c = simp (to_z-of_z, c.ranges.n, c.ranges.t) at c.quotient.ensures
 
 pub returns-in_default : goal.returns-in_default
 returns-in_default c = subst (IsQuotient _ _) c.in_default.is (answer c.before.before)
 
 -- the quotient and its size
-module _ (c : at.After-size reads.Pre reads.Post) where
+module _ (c : at.After-size tie.the-claims reads.Pre reads.Post) where
   abbrev o : goal.Start
   o = c.before.before.before.before.before
 

@@ -18,8 +18,9 @@ use Rattle.whole.proofs.Squares.{root_below, no_end, no_root}
 use Rattle.root.proofs.lead_of.Goals as goal
 use Rattle.root.proofs.lead_of.Lts as at
 use Rattle.root.proofs.lead_of.Reads as reads
+use Rattle.root.proofs.lead_of.Tie as tie
 
-m-is : (c : at.Start reads.Pre reads.Post) → to_z w64 (of_z w64 c.args.m) ≡ c.args.m
+m-is : (c : at.Start tie.the-claims reads.Pre reads.Post) → to_z w64 (of_z w64 c.args.m) ≡ c.args.m
 m-is c = to_z-of_z w64 c.args.m c.ranges.m
 
 pub returns-then-m-lt0 : goal.returns-then-m-lt0
@@ -32,7 +33,7 @@ pub overflow_cast-n : goal.overflow_cast-n
 overflow_cast-n c = let f = c.ranges.m in rw (m-is c.before) (cast_asks (nonneg c) f)
 
 -- a root of m is one of the machine's number
-squared : (c : at.Start reads.Pre reads.Post) (s : ℤ) → s *ℤ s ≡ c.args.m → nat_abs s * nat_abs s ≡ nat_abs (to_z w64 (of_z w64 c.args.m))
+squared : (c : at.Start tie.the-claims reads.Pre reads.Post) (s : ℤ) → s *ℤ s ≡ c.args.m → nat_abs s * nat_abs s ≡ nat_abs (to_z w64 (of_z w64 c.args.m))
 squared c s e = sym (abs_times s s) ∙ ap nat_abs (e ∙ sym (m-is c))
 
 pub returns-then-not-ends_as_a_square : goal.returns-then-not-ends_as_a_square
@@ -43,8 +44,8 @@ returns-then-not-ends_as_a_square c s e =
 pub returns-then-s-ne0 : goal.returns-then-s-ne0
 returns-then-s-ne0 c s e = let t = c in no_root t.square_root-s.ensures (λ none. omega (arith, c.if-s-ne0.true, none)) (nat_abs s) (squared t.before.before.before.before s e)
 
-module _ (c : at.After-square_root reads.Pre reads.Post) where
-  abbrev start : at.Start reads.Pre reads.Post
+module _ (c : at.After-square_root tie.the-claims reads.Pre reads.Post) where
+  abbrev start : at.Start tie.the-claims reads.Pre reads.Post
   start = c.before.before.before.before
 
   abbrev root : ℕ

@@ -35,14 +35,15 @@ use Rattle.root.proofs.Downward.{upper-root_once}
 use Rattle.root.proofs.quartic_root.Goals as goal
 use Rattle.root.proofs.quartic_root.Lts as at
 use Rattle.root.proofs.quartic_root.Reads as reads
+use Rattle.root.proofs.quartic_root.Tie as tie
 
 flipped : (a : ℤ) → Small a → Small (neg_ℤ a)
 flipped a h = record { size = rw abs_negative h.size }
 
-m8_fits : (s : at.Start reads.Pre reads.Post) → SFits w64 s.args.m.m8
+m8_fits : (s : at.Start tie.the-claims reads.Pre reads.Post) → SFits w64 s.args.m.m8
 m8_fits s = fits_within (lit< tt) (s.requires.0 8)
 
-rooted : (c : at.After-lead_of reads.Pre reads.Post) → IsLead c.args.m.m8 c.lead_of.result
+rooted : (c : at.After-lead_of tie.the-claims reads.Pre reads.Post) → IsLead c.args.m.m8 c.lead_of.result
 rooted c = let f = m8_fits c.before.before in simp (to_z-of_z, f) at c.lead_of.ensures
 
 pub returns-in_default : goal.returns-in_default
@@ -60,7 +61,7 @@ root-size k h = by (dec_lt root_size k)
 
 -- the root of the highest coefficient
 module _ (c : goal.In-Whole) where
-  abbrev o : at.Start reads.Pre reads.Post
+  abbrev o : at.Start tie.the-claims reads.Pre reads.Post
   o = c.before.before.before.before.before
 
   abbrev m : Octic
@@ -95,7 +96,7 @@ pub candidate_of-requires : goal.candidate_of-requires
 candidate_of-requires c = rw (s-is c) ((o c).requires.0, small c, some_lead c, lead c)
 
 -- what was found below it
-module _ (c : at.After-candidate_of reads.Pre reads.Post) where
+module _ (c : at.After-candidate_of tie.the-claims reads.Pre reads.Post) where
   abbrev M : List ℤ
   M = octic (m c.before)
 
@@ -114,7 +115,7 @@ returns-in_default-candidate_of c x b h =
     subst (IsSearch (M p) (s p.before)) c.in_default-candidate_of.is (searched p) y u
 
 module _ (c : goal.In-Upper) where
-  abbrev place : at.After-candidate_of reads.Pre reads.Post
+  abbrev place : at.After-candidate_of tie.the-claims reads.Pre reads.Post
   place = c.before.before.before
 
   abbrev q : Quartic

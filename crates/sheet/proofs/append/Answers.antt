@@ -19,13 +19,14 @@ use Rattle.sheet.proofs.Appended.{append-kept_as, append_fault, append-sound}
 use Rattle.sheet.proofs.append.Goals as goal
 use Rattle.sheet.proofs.append.Lts as at
 use Rattle.sheet.proofs.append.Reads as reads
+use Rattle.sheet.proofs.append.Tie as tie
 
 -- what is known of a sound sheet
-module _ (c : at.After-enum_told reads.Pre reads.Post) where
-  abbrev walked : at.After-walk reads.Pre reads.Post
+module _ (c : at.After-enum_told tie.the-claims reads.Pre reads.Post) where
+  abbrev walked : at.After-walk tie.the-claims reads.Pre reads.Post
   walked = c.before.before
 
-  abbrev start : at.Start reads.Pre reads.Post
+  abbrev start : at.Start tie.the-claims reads.Pre reads.Post
   start = walked.before.before.before
 
   abbrev sheet : List ℕ
@@ -53,8 +54,8 @@ returns-then-w-eq0 c =
     (append-none (sheet told) (curve told) (sound told) ((mission-at (sheet told)).none (sym (end_is told) ∙ c.if-w-eq0.true)) c.nowhere.ensures)
 
 -- what was put at the end of the records of a mission's sheet
-module _ (c : at.After-put_curve reads.Pre reads.Post) where
-  abbrev told : at.After-enum_told reads.Pre reads.Post
+module _ (c : at.After-put_curve tie.the-claims reads.Pre reads.Post) where
+  abbrev told : at.After-enum_told tie.the-claims reads.Pre reads.Post
   told = c.before.before.before.before
 
   own : mission_of (survey (sheet told)).records ≡ mission.Number (mission_in (sheet told))

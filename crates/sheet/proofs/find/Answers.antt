@@ -10,10 +10,11 @@ use Rattle.sheet.proofs.Told.{refused-found, located_found}
 use Rattle.sheet.proofs.find.Goals as goal
 use Rattle.sheet.proofs.find.Lts as at
 use Rattle.sheet.proofs.find.Reads as reads
+use Rattle.sheet.proofs.find.Tie as tie
 
 -- where the record stands
 module _ (c : goal.In-At) where
-  abbrev start : at.Start reads.Pre reads.Post
+  abbrev start : at.Start tie.the-claims reads.Pre reads.Post
   start = c.before.before.before.before.before
 
   abbrev place : ℕ

@@ -7,19 +7,20 @@ use Rattle.sheet.proofs.Told.{forward, other_located, none_located, one_located,
 use Rattle.sheet.proofs.locate.Goals as goal
 use Rattle.sheet.proofs.locate.Lts as at
 use Rattle.sheet.proofs.locate.Reads as reads
+use Rattle.sheet.proofs.locate.Tie as tie
 
 pub mission_of-requires : goal.mission_of-requires
 mission_of-requires c = c.walk-w.ensures.end_is
 
 -- what is known of a sound sheet, and whether its mission is another
-module _ (c : at.After-is_other reads.Pre reads.Post) where
+module _ (c : at.After-is_other tie.the-claims reads.Pre reads.Post) where
   abbrev told : goal.In-Sound
   told = c.before.before
 
-  abbrev walked : at.After-walk reads.Pre reads.Post
+  abbrev walked : at.After-walk tie.the-claims reads.Pre reads.Post
   walked = told.before.before
 
-  abbrev start : at.Start reads.Pre reads.Post
+  abbrev start : at.Start tie.the-claims reads.Pre reads.Post
   start = walked.before.before
 
   other_is : {b : Bool} → c.is_other-other.result ≡ b → is_other start.args.mission (mission_of (survey start.args.sheet.now).records) ≡ b

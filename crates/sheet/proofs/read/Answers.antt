@@ -15,10 +15,11 @@ use Rattle.sheet.proofs.Told.{located, located_read, refused-read}
 use Rattle.sheet.proofs.read.Goals as goal
 use Rattle.sheet.proofs.read.Lts as at
 use Rattle.sheet.proofs.read.Reads as reads
+use Rattle.sheet.proofs.read.Tie as tie
 
 -- where the record stands
 module _ (c : goal.In-At) where
-  abbrev start : at.Start reads.Pre reads.Post
+  abbrev start : at.Start tie.the-claims reads.Pre reads.Post
   start = let located = c.before.before.before in located.before.before
 
   abbrev place : ℕ
@@ -37,7 +38,7 @@ pub slice_bounds-held_curve-count : goal.slice_bounds-held_curve-count
 slice_bounds-held_curve-count c = omega (arith, fits (here c))
 
 -- what the bytes there hold
-held_there : (c : at.After-held_curve reads.Pre reads.Post) {x : Held} → c.held_curve.result ≡ x → let at = c.before.before in IsHeld (drop (place at) (start at).args.sheet.now) x
+held_there : (c : at.After-held_curve tie.the-claims reads.Pre reads.Post) {x : Held} → c.held_curve.result ≡ x → let at = c.before.before in IsHeld (drop (place at) (start at).args.sheet.now) x
 held_there c {x} e =
     let at = c.before.before in
     subst (λ (h : Held). IsHeld (drop (place at) (start at).args.sheet.now) h) e

@@ -14,6 +14,7 @@ use Rattle.sheet.proofs.Changed.{start-long, start_narrow, start_done}
 use Rattle.sheet.proofs.start.Goals as goal
 use Rattle.sheet.proofs.start.Lts as at
 use Rattle.sheet.proofs.start.Reads as reads
+use Rattle.sheet.proofs.start.Tie as tie
 
 drop-erased : (k n : ℕ) → drop k (replicate n erased) ≡ replicate (n - k) erased
 drop-erased zero n = let z : n ≡ n - 0 = omega arith in ap (λ (m : ℕ). replicate m erased) z
@@ -24,7 +25,7 @@ pub returns-then-sheet-gt-LONGEST : goal.returns-then-sheet-gt-LONGEST
 returns-then-sheet-gt-LONGEST c = start-long _ _ c.if-sheet-gt-LONGEST.true c.nowhere.ensures
 
 -- how long a header is
-size_is : (c : at.After-row_of reads.Pre reads.Post) → c.row_of-size.result.size ≡ (row_of Header).size
+size_is : (c : at.After-row_of tie.the-claims reads.Pre reads.Post) → c.row_of-size.result.size ≡ (row_of Header).size
 size_is c = ap (λ (r : Row). r.size) c.row_of-size.ensures
 
 pub returns-then-sheet-size : goal.returns-then-sheet-size
@@ -33,7 +34,7 @@ returns-then-sheet-size c =
     start_narrow _ _ tested.if-sheet-gt-LONGEST.false (omega (arith, tested.if-sheet-size.true, size_is tested.before)) c.nowhere-then-sheet-size.ensures
 
 -- the header fits into what was erased
-fits_now : (c : at.After-erase_all reads.Pre reads.Post) → c.row_of-size.result.size ≤ length c.erase_all.new.0
+fits_now : (c : at.After-erase_all tie.the-claims reads.Pre reads.Post) → c.row_of-size.result.size ≤ length c.erase_all.new.0
 fits_now c =
     omega (arith, c.if-sheet-size.false, ap length c.erase_all.ensures, length-replicate {A = ℕ} (length c.args.sheet.now) erased)
 

@@ -12,11 +12,11 @@ pub returns-in_default : goal.returns-in_default
 returns-in_default c =
     let k = c in
     wrong-count k.curve_in.ensures k.in_default.is
-    (settled c.coded.type-inv (c.coded.ensures ∙ ap (λ (f : Fault). code_of (refused f)) c.nowhere.ensures), refl)
+    (settled c.coded.type_inv (c.coded.ensures ∙ ap (λ (f : Fault). code_of (refused f)) c.nowhere.ensures), refl)
 
 pub returns : goal.returns
 returns c =
     let a = c in
     let k = a in
     right_count k.curve_in.ensures k.in-Curve.curve k.in-Curve.is
-    (a.append.result, a.append.ensures, settled c.changed.type-inv c.changed.ensures)
+    (a.append.result, a.append.ensures, settled c.changed.type_inv c.changed.ensures)

@@ -11,4 +11,4 @@ pub returns-in-Done : goal.returns-in-Done
 returns-in-Done c = sym (ap (λ (x : Change). code_of (count_of_change x)) c.in-Done.is)
 
 pub returns-in-Refused : goal.returns-in-Refused
-returns-in-Refused c = settled c.coded.type-inv (c.coded.ensures ∙ sym (ap (λ (x : Change). code_of (count_of_change x)) c.in-Refused.is))
+returns-in-Refused c = settled c.coded.type_inv (c.coded.ensures ∙ sym (ap (λ (x : Change). code_of (count_of_change x)) c.in-Refused.is))

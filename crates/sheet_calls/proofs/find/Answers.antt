@@ -45,7 +45,7 @@ returns-in-At c =
     let p = to_z_pos w64 (place k) (omega (arith, small k)) in
     let n = to_z_pos w64 (long k) (omega (arith, small k)) in
     hands_same ((λ i. given (p i ∷ n i ∷ [])) ∙ ap (with_given (map pos)) (found k) ∙ with_twice place_of (map pos) (chosen s.mission s.number s.s.now))
-    c.hand.type-inv c.hand.ensures
+    c.hand.type_inv c.hand.ensures
 
 pub returns-in-Refused : goal.returns-in-Refused
 returns-in-Refused c =
@@ -54,4 +54,4 @@ returns-in-Refused c =
     let s = m.args in
     let is = subst (Locates s.s.now s.mission s.number) k.in-Refused.is m.locate.ensures in
     hands_same (ap (with_given (map pos)) is ∙ with_twice place_of (map pos) (chosen s.mission s.number s.s.now))
-    c.faulted.type-inv c.faulted.ensures
+    c.faulted.type_inv c.faulted.ensures

@@ -16,7 +16,7 @@ returns-in-Points c =
     let s = m.args in
     let is = subst (Reads s.s.now s.mission s.number) k.in-Points.is m.read.ensures in
     hands_same (ap (with_given numbers_of) is ∙ with_twice points_of_entry numbers_of (chosen s.mission s.number s.s.now))
-    c.hand_curve.type-inv c.hand_curve.ensures
+    c.hand_curve.type_inv c.hand_curve.ensures
 
 pub returns-in-Refused : goal.returns-in-Refused
 returns-in-Refused c =
@@ -25,4 +25,4 @@ returns-in-Refused c =
     let s = m.args in
     let is = subst (Reads s.s.now s.mission s.number) k.in-Refused.is m.read.ensures in
     hands_same (ap (with_given numbers_of) is ∙ with_twice points_of_entry numbers_of (chosen s.mission s.number s.s.now))
-    c.faulted.type-inv c.faulted.ensures
+    c.faulted.type_inv c.faulted.ensures

@@ -15,10 +15,11 @@ use Rattle.hand.specs.Promise.{coded as code_of}
 use Rattle.sheet_calls.proofs.report.Goals as goal
 use Rattle.sheet_calls.proofs.report.Lts as at
 use Rattle.sheet_calls.proofs.report.Reads as reads
+use Rattle.sheet_calls.proofs.report.Tie as tie
 
 -- what the report says, where it is written
 module _ (c : goal.In-Written) where
-  abbrev from : at.After-write_report reads.Pre reads.Post
+  abbrev from : at.After-write_report tie.the-claims reads.Pre reads.Post
   from = c.before.before.before.before.before
 
   done : Reported from.args.s.now from.args.text.now from.write-report.last.1.0 (text.Written c.in-Written.n)
@@ -42,5 +43,5 @@ returns-in-Refused c =
     let s = w.args in (
       text.Refused k.in-Refused.r,
       subst (Reported s.s.now s.text.now w.write_report.new.1.0) k.in-Refused.is w.write_report.ensures,
-      settled c.coded.type-inv (c.coded.ensures ∙ ap (λ (f : Fault). code_of (refused f)) c.nowhere.ensures),
+      settled c.coded.type_inv (c.coded.ensures ∙ ap (λ (f : Fault). code_of (refused f)) c.nowhere.ensures),
     )

@@ -11,6 +11,7 @@ use Rattle.text.proofs.Held.{ends_written, ends_full}
 use Rattle.text.proofs.ended.Goals as goal
 use Rattle.text.proofs.ended.Lts as at
 use Rattle.text.proofs.ended.Reads as reads
+use Rattle.text.proofs.ended.Tie as tie
 
 pub returns-then-end-area : goal.returns-then-end-area
 returns-then-end-area c =
@@ -20,7 +21,7 @@ returns-then-end-area c =
     ends_written area found.in-At.end found.in-At.is c.clear.ensures
 
 -- no text is held up to this place, or it did not fit
-too_long : (c : at.At-match-branch reads.Pre reads.Post) → let a = c.args in (text : List ℕ) → HoldsText a.area.now text a.place → length a.area.now < length text
+too_long : (c : at.At-match-branch tie.the-claims reads.Pre reads.Post) → let a = c.args in (text : List ℕ) → HoldsText a.area.now text a.place → length a.area.now < length text
 too_long c text h =
     let area = c.args.area.now in
     ⊎_elim

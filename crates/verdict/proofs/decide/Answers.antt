@@ -19,6 +19,7 @@ use Rattle.verdict.proofs.Multiples.{generated_some, not-squared_moves}
 use Rattle.verdict.proofs.decide.Goals as goal
 use Rattle.verdict.proofs.decide.Lts as at
 use Rattle.verdict.proofs.decide.Reads as reads
+use Rattle.verdict.proofs.decide.Tie as tie
 
 module _ (s : goal.Start) where
   abbrev ds : List Pair
@@ -66,7 +67,7 @@ returns-in_default c = c.unmade.ensures
 
 -- ---- with a generator
 module _ (c : goal.After-w-1) where
-  abbrev t : at.After-generator_of reads.Pre reads.Post
+  abbrev t : at.After-generator_of tie.the-claims reads.Pre reads.Post
   t = c.before.before.before.before.before
 
   abbrev e : goal.Else-is_still

@@ -9,9 +9,10 @@ use Rattle.verdict.proofs.Refusals.{preimage_answer, recognised_preimage}
 use Rattle.verdict.proofs.preimage_of.Goals as goal
 use Rattle.verdict.proofs.preimage_of.Lts as at
 use Rattle.verdict.proofs.preimage_of.Reads as reads
+use Rattle.verdict.proofs.preimage_of.Tie as tie
 
 -- `recognise` answered v
-answer : (c : at.After-recognise reads.Pre reads.Post) (v : Verdict) → c.recognise.result ≡ v → Preimaged (points_of c.args.curve) (preimage_answer v)
+answer : (c : at.After-recognise tie.the-claims reads.Pre reads.Post) (v : Verdict) → c.recognise.result ≡ v → Preimaged (points_of c.args.curve) (preimage_answer v)
 answer c v e = let ps = points_of c.args.curve in recognised_preimage ps v (subst (Recognised ps) e c.recognise.ensures)
 
 pub returns-in-Still : goal.returns-in-Still

@@ -8,4 +8,4 @@ pub returns : goal.returns
 returns c =
     let s = c.ranges in
     let r = c.build in
-    rw (to_z-of_z w64 r.result (record { sfits = r.type-inv })) (simp (to_z-of_z, s.x, s.y) at r.ensures)
+    rw (to_z-of_z w64 r.result (record { sfits = r.type_inv })) (simp (to_z-of_z, s.x, s.y) at r.ensures)

@@ -13,10 +13,11 @@ use borrow.Author.Rules.{rules}
 use Rattle.cable.proofs.lines.line_of.Goals as goal
 use Rattle.cable.proofs.lines.line_of.Lts as at
 use Rattle.cable.proofs.lines.line_of.Reads as reads
+use Rattle.cable.proofs.lines.line_of.Tie as tie
 
 -- what was written, by its case
 wrote :
-    (c : at.After-ended reads.Pre reads.Post) {r : TextAnswer} → c.ended.result ≡ r
+    (c : at.After-ended tie.the-claims reads.Pre reads.Post) {r : TextAnswer} → c.ended.result ≡ r
     → let put = c.before.before.before.before in
     let s = put.args in
     TextIn (λ (t : List ℕ). t ≡ answer_line (answer_of_checked s.answer)) s.text.now c.ended.new.0 r

@@ -6,9 +6,10 @@ use Rattle.bernstein.specs.Powers.{differences}
 use Rattle.curve.proofs.drawing.cubic_legs.Goals as goal
 use Rattle.curve.proofs.drawing.cubic_legs.Lts as at
 use Rattle.curve.proofs.drawing.cubic_legs.Reads as reads
+use Rattle.curve.proofs.drawing.cubic_legs.Tie as tie
 
 -- where the points have been copied
-abbrev start : goal.After-p3-1 → (at.Start reads.Pre reads.Post)
+abbrev start : goal.After-p3-1 → (at.Start tie.the-claims reads.Pre reads.Post)
 start c = c.before.before.before.before
 
 pub difference-d0-requires : goal.difference-d0-requires

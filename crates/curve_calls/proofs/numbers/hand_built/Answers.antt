@@ -11,9 +11,9 @@ use Rattle.curve_calls.proofs.numbers.hand_built.Goals as goal
 pub returns-in-Built : goal.returns-in-Built
 returns-in-Built c =
     hands_same (ap (λ (x : BuildAnswer). with_given built_numbers (answer_of_built x)) (sym c.in-Built.is))
-    c.hand_curve.type-inv c.hand_curve.ensures
+    c.hand_curve.type_inv c.hand_curve.ensures
 
 pub returns-in-Refused : goal.returns-in-Refused
 returns-in-Refused c =
     hands_same (ap (λ (x : BuildAnswer). with_given built_numbers (answer_of_built x)) (sym c.in-Refused.is))
-    c.refused.type-inv c.refused.ensures
+    c.refused.type_inv c.refused.ensures

@@ -37,9 +37,9 @@ returns-in-Found c =
     (kept x.turning.t0 f.0.1 (kept x.turning.t1 f.1.0.1 (kept x.turning.t2 f.1.1.0.1
     (counted x.count k.struct_known-1.given.1.0.fits (flagged x.straight)))))
     ∙ ap (λ (x : InflectionAnswer). with_given inflection_numbers (answer_of_inflections x)) (sym v.1))
-    c.hand.type-inv c.hand.ensures
+    c.hand.type_inv c.hand.ensures
 
 pub returns-in-Refused : goal.returns-in-Refused
 returns-in-Refused c =
     hands_same (ap (λ (x : InflectionAnswer). with_given inflection_numbers (answer_of_inflections x)) (sym c.in-Refused.is))
-    c.refused.type-inv c.refused.ensures
+    c.refused.type_inv c.refused.ensures

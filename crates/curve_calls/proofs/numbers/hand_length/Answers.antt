@@ -18,9 +18,9 @@ returns-in-Found c =
     hands_same
     (ap given (kept l.c f.0.1 (kept l.a f.1.0.1 (kept l.b f.1.1.0.1 refl)))
     ∙ ap (λ (x : LengthAnswer). with_given length_numbers (answer_of_length x)) (sym v.1))
-    c.hand.type-inv c.hand.ensures
+    c.hand.type_inv c.hand.ensures
 
 pub returns-in-Refused : goal.returns-in-Refused
 returns-in-Refused c =
     hands_same (ap (λ (x : LengthAnswer). with_given length_numbers (answer_of_length x)) (sym c.in-Refused.is))
-    c.refused.type-inv c.refused.ensures
+    c.refused.type_inv c.refused.ensures

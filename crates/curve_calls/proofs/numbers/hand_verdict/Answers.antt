@@ -17,20 +17,20 @@ asked-same : {v w : Verdict} → v ≡ w → asked w ≡ asked v
 asked-same e = sym (ap asked e)
 
 pub returns-in-Still : goal.returns-in-Still
-returns-in-Still c = hands_same (asked-same c.in-Still.is) c.hand.type-inv c.hand.ensures
+returns-in-Still c = hands_same (asked-same c.in-Still.is) c.hand.type_inv c.hand.ensures
 
 pub returns-in-No : goal.returns-in-No
-returns-in-No c = hands_same (asked-same c.in-No.is) c.hand-in-No.type-inv c.hand-in-No.ensures
+returns-in-No c = hands_same (asked-same c.in-No.is) c.hand-in-No.type_inv c.hand-in-No.ensures
 
 pub returns-in-Ph : goal.returns-in-Ph
 returns-in-Ph c =
     let k = c in
-    hands_same (ap given k.ph_numbers-xs.ensures ∙ asked-same k.in-Ph.is) c.hand-in-Ph.type-inv c.hand-in-Ph.ensures
+    hands_same (ap given k.ph_numbers-xs.ensures ∙ asked-same k.in-Ph.is) c.hand-in-Ph.type_inv c.hand-in-Ph.ensures
 
 pub returns-in-Pre : goal.returns-in-Pre
 returns-in-Pre c =
     let k = c in
-    hands_same (ap given k.pre_numbers-xs.ensures ∙ asked-same k.in-Pre.is) c.hand-in-Pre.type-inv c.hand-in-Pre.ensures
+    hands_same (ap given k.pre_numbers-xs.ensures ∙ asked-same k.in-Pre.is) c.hand-in-Pre.type_inv c.hand-in-Pre.ensures
 
 pub returns-in-Refused : goal.returns-in-Refused
-returns-in-Refused c = hands_same (asked-same c.in-Refused.is) c.refused.type-inv c.refused.ensures
+returns-in-Refused c = hands_same (asked-same c.in-Refused.is) c.refused.type_inv c.refused.ensures

@@ -19,12 +19,13 @@ use borrow.Author.Rules.{rules}
 use Rattle.make_sheet.proofs.lines.amount_in.Goals as goal
 use Rattle.make_sheet.proofs.lines.amount_in.Lts as at
 use Rattle.make_sheet.proofs.lines.amount_in.Reads as reads
+use Rattle.make_sheet.proofs.lines.amount_in.Tie as tie
 
-module _ (c : at.After-find reads.Pre reads.Post) where
-  abbrev call : at.After-take_numbers reads.Pre reads.Post
+module _ (c : at.After-find tie.the-claims reads.Pre reads.Post) where
+  abbrev call : at.After-take_numbers tie.the-claims reads.Pre reads.Post
   call = c.before.before.before.before.before
 
-  abbrev start : at.Start reads.Pre reads.Post
+  abbrev start : at.Start tie.the-claims reads.Pre reads.Post
   start = call.before.before.before
 
   abbrev numbers : List ℤ

@@ -12,13 +12,14 @@ use borrow.Author.Rules.{rules}
 use Rattle.make_sheet.proofs.lines.read_words.Goals as goal
 use Rattle.make_sheet.proofs.lines.read_words.Lts as at
 use Rattle.make_sheet.proofs.lines.read_words.Reads as reads
+use Rattle.make_sheet.proofs.lines.read_words.Tie as tie
 
 -- where the first word was looked at
-module _ (c : at.After-form_of reads.Pre reads.Post) where
+module _ (c : at.After-form_of tie.the-claims reads.Pre reads.Post) where
   abbrev find : goal.After-find-end
   find = c.before.before
 
-  abbrev first : at.After-find reads.Pre reads.Post
+  abbrev first : at.After-find tie.the-claims reads.Pre reads.Post
   first = find.before.before
 
   abbrev text : List ℕ

@@ -15,6 +15,7 @@ use Rattle.measure.proofs.Sizes.{cross-within}
 use Rattle.measure.proofs.counting.turning.Goals as goal
 use Rattle.measure.proofs.counting.turning.Lts as at
 use Rattle.measure.proofs.counting.turning.Reads as reads
+use Rattle.measure.proofs.counting.turning.Tie as tie
 
 small : {a b : Pair} → PartsWithin 2000 a → PartsWithin 2000 b → PartsWithin (2 ^ 30) a × PartsWithin (2 ^ 30) b
 small h k = (wider (lit≤ tt) h, wider (lit≤ tt) k)
@@ -29,7 +30,7 @@ pub cross-x12-requires : goal.cross-x12-requires
 cross-x12-requires c = let s = c in small (s.requires 1) (s.requires 2)
 
 module _ (c : goal.After-cross-x12) where
-  abbrev s : at.Start reads.Pre reads.Post
+  abbrev s : at.Start tie.the-claims reads.Pre reads.Post
   s = c.before.before.before.before.before.before
 
   first : Within 8000000 c.cross-x01.result

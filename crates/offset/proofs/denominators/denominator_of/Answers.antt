@@ -15,6 +15,7 @@ use Rattle.offset.proofs.Answers.{root-asked, denominated_beyond, denominated_re
 use Rattle.offset.proofs.denominators.denominator_of.Goals as goal
 use Rattle.offset.proofs.denominators.denominator_of.Lts as at
 use Rattle.offset.proofs.denominators.denominator_of.Reads as reads
+use Rattle.offset.proofs.denominators.denominator_of.Tie as tie
 
 h-kept : (c : goal.Start) → to_z w64 (of_z w64 c.args.h) ≡ c.args.h
 h-kept c = to_z-of_z w64 c.args.h c.ranges.h
@@ -28,7 +29,7 @@ h-within : (c : goal.Else-not-within) → Within coordinate_reach c.args.h
 h-within c = subst (Within coordinate_reach) (h-kept c.before.before) (told c.within.result c.within.ensures c.if-not-within.false-raw)
 
 -- there is a pre-image
-module _ (c : at.After-known_told reads.Pre reads.Post) where
+module _ (c : at.After-known_told tie.the-claims reads.Pre reads.Post) where
   abbrev t : goal.Else-not-within
   t = c.before.before.before.before
 

@@ -28,6 +28,7 @@ use Rattle.verdict.specs.declared.Square.{Square}
 use Rattle.offset.proofs.denominators.rooted.Goals as goal
 use Rattle.offset.proofs.denominators.rooted.Lts as at
 use Rattle.offset.proofs.denominators.rooted.Reads as reads
+use Rattle.offset.proofs.denominators.rooted.Tie as tie
 
 module _ (c : goal.After-q-1) where
   abbrev s : Square
@@ -45,7 +46,7 @@ module _ (c : goal.After-q-1) where
 pub overflow_cast-c : goal.overflow_cast-c
 overflow_cast-c c = let p = c.requires.positive in rw (c-kept c) (cast_asks (omega linear) (c_fits c))
 
-found : (c : at.After-square_root reads.Pre reads.Post) → IsRoot (nat_abs (s c.before).c) c.square_root-m.result
+found : (c : at.After-square_root tie.the-claims reads.Pre reads.Post) → IsRoot (nat_abs (s c.before).c) c.square_root-m.result
 found c = subst (λ z. IsRoot (nat_abs z) c.square_root-m.result) (c-kept c.before) c.square_root-m.ensures
 
 pub returns-then-m-ne0 : goal.returns-then-m-ne0
@@ -54,7 +55,7 @@ returns-then-m-ne0 c =
     (inl (λ m e. no_root (found k) (λ none. omega (arith, c.if-m-ne0.true, none)) m (sym (ap nat_abs e)), refl), refl)
 
 module _ (c : goal.After-struct_known-2-1) where
-  abbrev k : at.After-square_root reads.Pre reads.Post
+  abbrev k : at.After-square_root tie.the-claims reads.Pre reads.Post
   k = c.before.before.before
 
   abbrev t : goal.After-q-1

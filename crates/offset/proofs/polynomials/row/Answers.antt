@@ -19,6 +19,7 @@ use Rattle.offset.proofs.Products.{row_size-most, none, Stage, stage_none, stage
 use Rattle.offset.proofs.polynomials.row.Goals as goal
 use Rattle.offset.proofs.polynomials.row.Lts as at
 use Rattle.offset.proofs.polynomials.row.Reads as reads
+use Rattle.offset.proofs.polynomials.row.Tie as tie
 
 -- h times a coefficient of d
 module _ {h b : ℤ} (hh : Within coordinate_reach h) (hb : Within 1280000 b) where
@@ -45,22 +46,22 @@ module _ {x : Coordinate} {h : ℤ} (hx : (k : ℕ) → Within 1600000 (at whole
   made e = subst (λ r. Stage x h (suc n) r (a ∷ w) (b ∷ d)) (sym (e ∙ ap₂ (λ f g. joined_to p f x g) (read_back tt ha) (product_is hh hb))) (stage_step hx hh n p w d a b l ha hb s)
 
 -- where the function starts, seen from the place before each call
-abbrev o0 : goal.After-struct_told-10-1 → (at.Start reads.Pre reads.Post)
+abbrev o0 : goal.After-struct_told-10-1 → (at.Start tie.the-claims reads.Pre reads.Post)
 o0 c = c.before.before.before.before.before.before.before.before.before.before
 
-abbrev o1 : goal.After-joined-r4 → (at.Start reads.Pre reads.Post)
+abbrev o1 : goal.After-joined-r4 → (at.Start tie.the-claims reads.Pre reads.Post)
 o1 c = o0 c.before
 
-abbrev o2 : goal.After-joined-r3 → (at.Start reads.Pre reads.Post)
+abbrev o2 : goal.After-joined-r3 → (at.Start tie.the-claims reads.Pre reads.Post)
 o2 c = o1 c.before
 
-abbrev o3 : goal.After-joined-r2 → (at.Start reads.Pre reads.Post)
+abbrev o3 : goal.After-joined-r2 → (at.Start tie.the-claims reads.Pre reads.Post)
 o3 c = o2 c.before
 
-abbrev o4 : goal.After-joined-r1 → (at.Start reads.Pre reads.Post)
+abbrev o4 : goal.After-joined-r1 → (at.Start tie.the-claims reads.Pre reads.Post)
 o4 c = o3 c.before
 
-abbrev o5 : goal.After-joined → (at.Start reads.Pre reads.Post)
+abbrev o5 : goal.After-joined → (at.Start tie.the-claims reads.Pre reads.Post)
 o5 c = o4 c.before
 
 -- the stages, each at the place before its call

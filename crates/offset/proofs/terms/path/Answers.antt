@@ -19,6 +19,7 @@ use Rattle.offset.specs.Steps.{IsPath}
 use Rattle.offset.proofs.terms.path.Goals as goal
 use Rattle.offset.proofs.terms.path.Lts as at
 use Rattle.offset.proofs.terms.path.Reads as reads
+use Rattle.offset.proofs.terms.path.Tie as tie
 
 -- n times a coefficient of d
 module _ {x y : ℤ} (h : Within 1280000 x) (k : Within 5 y) where
@@ -32,7 +33,7 @@ module _ {x y : ℤ} (h : Within 1280000 x) (k : Within 5 y) where
   product-within = bounds (h ▸ k ▸ done) (λ ρ e k. simp (e 0, e 1, readℤ) (within k _ refl))
 
 module _ (c : goal.After-struct_told-5-1) where
-  abbrev o : at.Start reads.Pre reads.Post
+  abbrev o : at.Start tie.the-claims reads.Pre reads.Post
   o = c.before.before.before.before.before
 
   d : (k : ℕ) → Within 1280000 (at wholes (quartic o.args.d) k)

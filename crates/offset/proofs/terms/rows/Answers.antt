@@ -33,6 +33,7 @@ use Rattle.offset.proofs.Paths.{path-asked, path-is, coordinate, weight-least, w
 use Rattle.offset.proofs.terms.rows.Goals as goal
 use Rattle.offset.proofs.terms.rows.Lts as at
 use Rattle.offset.proofs.terms.rows.Reads as reads
+use Rattle.offset.proofs.terms.rows.Tie as tie
 
 pub legs_of-requires : goal.legs_of-requires
 legs_of-requires c = c.requires.range
@@ -43,7 +44,7 @@ drawn-d-requires c k =
     subst (λ (l : List Pair). PartsWithin leg_reach (at pairs l k)) (sym c.legs_of.ensures) (legs-within (points_of s.args.curve) s.requires.range k)
 
 -- ---- what is known of D and of r, once D is drawn
-module _ (c : at.After-imaginaries reads.Pre reads.Post) where
+module _ (c : at.After-imaginaries tie.the-claims reads.Pre reads.Post) where
   abbrev drew : goal.After-drawn-d
   drew = c.before.before
 
@@ -103,7 +104,7 @@ path-y-requires c = im-asked c.before.before.before
 
 -- ---- what is known of r, once its paths are made
 module _ (c : goal.After-path-y) where
-  abbrev g : at.After-imaginaries reads.Pre reads.Post
+  abbrev g : at.After-imaginaries tie.the-claims reads.Pre reads.Post
   g = c.before.before.before.before
 
   start_small : PartsWithin coordinate_reach (drew g).start-p.result

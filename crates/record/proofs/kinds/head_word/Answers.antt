@@ -10,9 +10,10 @@ use Rattle.record.proofs.Table.{row-known}
 use Rattle.record.proofs.kinds.head_word.Goals as goal
 use Rattle.record.proofs.kinds.head_word.Lts as at
 use Rattle.record.proofs.kinds.head_word.Reads as reads
+use Rattle.record.proofs.kinds.head_word.Tie as tie
 
 -- the row is the table's
-module _ (c : at.After-row_of reads.Pre reads.Post) where
+module _ (c : at.After-row_of tie.the-claims reads.Pre reads.Post) where
   size_is : c.row_of-row.result.size ≡ (row_of c.args.kind).size
   size_is = ap (λ (r : Row). r.size) c.row_of-row.ensures
 

@@ -19,6 +19,7 @@ use Rattle.record.specs.Steps.{HeldAs}
 use Rattle.record.proofs.points.held_curve.Goals as goal
 use Rattle.record.proofs.points.held_curve.Lts as at
 use Rattle.record.proofs.points.held_curve.Reads as reads
+use Rattle.record.proofs.points.held_curve.Tie as tie
 
 pub returns-then-rest-lt4 : goal.returns-then-rest-lt4
 returns-then-rest-lt4 c k b = omega (arith, b.long, c.if-rest-lt4.true)
@@ -29,8 +30,8 @@ returns-in_default c k b =
     omega arith
 
 -- the kind that is named, and how long its records are
-module _ (c : at.After-row_of reads.Pre reads.Post) where
-  abbrev named_there : at.After-kind_in reads.Pre reads.Post
+module _ (c : at.After-row_of tie.the-claims reads.Pre reads.Post) where
+  abbrev named_there : at.After-kind_in tie.the-claims reads.Pre reads.Post
   named_there = c.before.before.before.before
 
   abbrev kind : Kind

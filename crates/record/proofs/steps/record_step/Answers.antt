@@ -16,9 +16,10 @@ use Rattle.record.proofs.Heads.{head-size, headed_step}
 use Rattle.record.proofs.steps.record_step.Goals as goal
 use Rattle.record.proofs.steps.record_step.Lts as at
 use Rattle.record.proofs.steps.record_step.Reads as reads
+use Rattle.record.proofs.steps.record_step.Tie as tie
 
 -- what the head shows
-module _ (c : at.After-row_of reads.Pre reads.Post) where
+module _ (c : at.After-row_of tie.the-claims reads.Pre reads.Post) where
   abbrev kind : Kind
   kind = c.args.kind
 
@@ -46,7 +47,7 @@ all_within-requires c =
     omega (arith, c.words.ensures, (row-known (kind k)).holds, size_is k, c.if-rest-row_of.false)
 
 -- the test of the coordinates, as many as the table says
-range_is : (c : at.After-all_within reads.Pre reads.Post) → let k = c.before.before.before.before in c.all_within.result ≡ all_within (coordinates (words_of (kind k)) (rest k) 4)
+range_is : (c : at.After-all_within tie.the-claims reads.Pre reads.Post) → let k = c.before.before.before.before in c.all_within.result ≡ all_within (coordinates (words_of (kind k)) (rest k) 4)
 range_is c =
     let k = c.before.before.before.before in
     c.all_within.ensures ∙ ap (λ (n : ℕ). all_within (coordinates n (rest k) 4)) c.words.ensures

@@ -17,13 +17,14 @@ use Rattle.record.proofs.Putting.{put_back, at_range, at_room, at_done}
 use Rattle.record.proofs.writes.put_at.Goals as goal
 use Rattle.record.proofs.writes.put_at.Lts as at
 use Rattle.record.proofs.writes.put_at.Reads as reads
+use Rattle.record.proofs.writes.put_at.Tie as tie
 
 -- before the tests: what the table and the place say
-module _ (c : at.After-left_at reads.Pre reads.Post) where
+module _ (c : at.After-left_at tie.the-claims reads.Pre reads.Post) where
   abbrev sized : goal.After-row_of-size
   sized = c.before.before
 
-  abbrev start : at.Start reads.Pre reads.Post
+  abbrev start : at.Start tie.the-claims reads.Pre reads.Post
   start = sized.before.before.before
 
   abbrev bytes : List ℕ
@@ -48,7 +49,7 @@ pub returns-then-not-within : goal.returns-then-not-within
 returns-then-not-within c = at_range _ _ _ _ (sym (within-is c.before) ∙ not-true _ c.if-not-within.true-raw)
 
 -- past the test of RANGE
-range : (c : at.Else1 reads.Pre reads.Post) → all_within (start c.before).args.xs.now ≡ true
+range : (c : at.Else1 tie.the-claims reads.Pre reads.Post) → all_within (start c.before).args.xs.now ≡ true
 range c = sym (within-is c.before) ∙ not-false _ c.if-not-within.false-raw
 
 pub returns-then-left-size : goal.returns-then-left-size
@@ -56,7 +57,7 @@ returns-then-left-size c = let k = c.before.before in at_room _ _ _ _ (range c.b
 
 -- past the test of ROOM: the record fits
 module _ (c : goal.Else-left-size) where
-  abbrev known : at.After-left_at reads.Pre reads.Post
+  abbrev known : at.After-left_at tie.the-claims reads.Pre reads.Post
   known = c.before.before
 
   room : at known + size known ≤ length (bytes known)

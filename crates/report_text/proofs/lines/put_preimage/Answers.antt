@@ -13,12 +13,13 @@ use Rattle.text.proofs.Pieces.{◌then◌, writes_same}
 use Rattle.report_text.proofs.lines.put_preimage.Goals as goal
 use Rattle.report_text.proofs.lines.put_preimage.Lts as at
 use Rattle.report_text.proofs.lines.put_preimage.Reads as reads
+use Rattle.report_text.proofs.lines.put_preimage.Tie as tie
 
 pub length_by-length-requires : goal.length_by-length-requires
 length_by-length-requires c = root_small c.args.p c.args.curve c.requires.1 c.requires.0
 
 -- the fields of the length fit: far behind, that is no longer found
-module _ (c : at.After-length_by reads.Pre reads.Post) where
+module _ (c : at.After-length_by tie.the-claims reads.Pre reads.Post) where
   c_fits : SFits w64 c.length_by-length.result.c
   c_fits = search rules
 

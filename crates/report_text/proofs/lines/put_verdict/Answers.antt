@@ -14,9 +14,10 @@ use Rattle.text.proofs.Pieces.{writes_none, writes_same}
 use Rattle.report_text.proofs.lines.put_verdict.Goals as goal
 use Rattle.report_text.proofs.lines.put_verdict.Lts as at
 use Rattle.report_text.proofs.lines.put_verdict.Reads as reads
+use Rattle.report_text.proofs.lines.put_verdict.Tie as tie
 
 -- what was recognised, by its case
-judged : (c : at.After-recognise reads.Pre reads.Post) {v : Verdict} → c.recognise.result ≡ v → Recognised (points_of c.args.curve) v
+judged : (c : at.After-recognise tie.the-claims reads.Pre reads.Post) {v : Verdict} → c.recognise.result ≡ v → Recognised (points_of c.args.curve) v
 judged c e = subst (Recognised (points_of c.args.curve)) e c.recognise.ensures
 
 pub put_preimage-requires : goal.put_preimage-requires

@@ -22,6 +22,7 @@ use Rattle.states.proofs.Answered.{front_long, answer_by_lem, fault_within, left
 use Rattle.states.proofs.going.answer.Goals as goal
 use Rattle.states.proofs.going.answer.Lts as at
 use Rattle.states.proofs.going.answer.Reads as reads
+use Rattle.states.proofs.going.answer.Tie as tie
 
 pub returns-then-state-gt-LONGEST : goal.returns-then-state-gt-LONGEST
 unfolding answer_in if◌then◌else◌
@@ -50,7 +51,7 @@ pub slice_bounds-walk-end : goal.slice_bounds-walk-end
 slice_bounds-walk-end c = c.least-held.ensures ∙ sym (ap length (front-is c) ∙ front_long (stands (known c)))
 
 -- and the answer is by the ending that it finds
-module _ (c : at.After-walk reads.Pre reads.Post) where
+module _ (c : at.After-walk tie.the-claims reads.Pre reads.Post) where
   abbrev stood : State
   stood = st (known c.before.before)
 
@@ -70,8 +71,8 @@ fault_behind-requires c =
     fault_within (standing k) _ (ending_is k ∙ told.in-Faulty.is)
 
 -- where the front ends soundly, the answer is by the step behind it
-module _ (c : at.After-erased_end reads.Pre reads.Post) where
-  abbrev walked : at.After-walk reads.Pre reads.Post
+module _ (c : at.After-erased_end tie.the-claims reads.Pre reads.Post) where
+  abbrev walked : at.After-walk tie.the-claims reads.Pre reads.Post
   walked = c.before.before.before
 
   by_step : answer_in (stood walked) ≡ answer_by (stood walked) c.erased_end.result

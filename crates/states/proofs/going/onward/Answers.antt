@@ -23,6 +23,7 @@ use Rattle.states.proofs.Fronts.{curves-within, seven-words, held-long, joined-l
 use Rattle.states.proofs.going.onward.Goals as goal
 use Rattle.states.proofs.going.onward.Lts as at
 use Rattle.states.proofs.going.onward.Reads as reads
+use Rattle.states.proofs.going.onward.Tie as tie
 
 pub joined-front-requires : goal.joined-front-requires
 joined-front-requires c =
@@ -35,7 +36,7 @@ joined-front-requires c =
 
 -- what the walk is given: the bytes of the state and of the part
 module _ (c : goal.After-front-1) where
-  abbrev start : at.Start reads.Pre reads.Post
+  abbrev start : at.Start tie.the-claims reads.Pre reads.Post
   start = c.before.before.before.before.before.before.before.before.before
 
   abbrev state : State
@@ -71,7 +72,7 @@ pub slice_bounds-walk-end : goal.slice_bounds-walk-end
 slice_bounds-walk-end c = sym (length-take-le c.least-all.result (front c) (omega (arith, front_long c, all-is c, joined-long (state c) (seven c) (part c))))
 
 -- the records that the walk finds end behind the bytes of the state, and within the part
-module _ (c : at.After-walk reads.Pre reads.Post) where
+module _ (c : at.After-walk tie.the-claims reads.Pre reads.Post) where
   abbrev stood : goal.After-front-1
   stood = c.before.before
 

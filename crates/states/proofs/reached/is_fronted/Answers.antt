@@ -18,10 +18,11 @@ use Rattle.states.proofs.Fronts.{held-long}
 use Rattle.states.proofs.reached.is_fronted.Goals as goal
 use Rattle.states.proofs.reached.is_fronted.Lts as at
 use Rattle.states.proofs.reached.is_fronted.Reads as reads
+use Rattle.states.proofs.reached.is_fronted.Tie as tie
 
 -- the front of the state, as the tests see it
 module _ (c : goal.After-bytes-1) where
-  abbrev start : at.Start reads.Pre reads.Post
+  abbrev start : at.Start tie.the-claims reads.Pre reads.Post
   start = c.before.before.before.before.before.before
 
   abbrev state : State
@@ -49,7 +50,7 @@ pub slice_bounds-front-end : goal.slice_bounds-front-end
 slice_bounds-front-end c = sym (length-take-le (held c) c.bytes_of-bytes.result (omega (arith, held-is c, bytes-long c)))
 
 -- how many bytes FF come first
-erased_is : (c : at.After-erased_bytes reads.Pre reads.Post) → c.erased_bytes.result ≡ erased_bytes (front_in (state c.before.before.before.before))
+erased_is : (c : at.After-erased_bytes tie.the-claims reads.Pre reads.Post) → c.erased_bytes.result ≡ erased_bytes (front_in (state c.before.before.before.before))
 erased_is c = c.erased_bytes.ensures ∙ ap erased_bytes (front-is c.before.before.before.before)
 
 pub returns-then-least-erased_bytes : goal.returns-then-least-erased_bytes
@@ -58,7 +59,7 @@ returns-then-least-erased_bytes c =
     λ f. c.if-least-erased_bytes.true (e.least.ensures ∙ f.erased_is ∙ sym (erased_is e))
 
 -- where the records of the front end
-module _ (c : at.After-walk reads.Pre reads.Post) where
+module _ (c : at.After-walk tie.the-claims reads.Pre reads.Post) where
   abbrev walked : goal.After-bytes-1
   walked = c.before.before.before.before.before.before.before
 
@@ -69,7 +70,7 @@ pub returns-then-walk-ne0 : goal.returns-then-walk-ne0
 returns-then-walk-ne0 c = λ f. c.if-walk-ne0.true (end_is c.before.before ∙ f.no_record)
 
 -- the words of the front
-own_is : (c : at.After-front_words reads.Pre reads.Post) → c.front_words-own.result ≡ packed (front_in (state (walked c.before.before.before)))
+own_is : (c : at.After-front_words tie.the-claims reads.Pre reads.Post) → c.front_words-own.result ≡ packed (front_in (state (walked c.before.before.before)))
 own_is c =
     let front = walked c.before.before.before in
     c.front_words-own.ensures

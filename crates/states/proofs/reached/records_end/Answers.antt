@@ -12,6 +12,7 @@ use Rattle.states.specs.Steps.{CurvesEnd, RecordsEnd}
 use Rattle.states.proofs.reached.records_end.Goals as goal
 use Rattle.states.proofs.reached.records_end.Lts as at
 use Rattle.states.proofs.reached.records_end.Reads as reads
+use Rattle.states.proofs.reached.records_end.Tie as tie
 
 -- what is left of the place for the curves
 at_first : (curves place : ℕ) → place ≡ 0 → RecordsEnd curves place → curves ≡ 0
@@ -32,7 +33,7 @@ returns-then-place-eq0 c =
     told-map (λ z. inl (c.if-place-eq0.true, z)) (at_first s.curves s.place c.if-place-eq0.true) (eqb s.curves 0) (equal_tells s.curves 0)
 
 -- the length of the table
-header_is : (c : at.After-row_of reads.Pre reads.Post) → c.row_of-header.result.size ≡ 6
+header_is : (c : at.After-row_of tie.the-claims reads.Pre reads.Post) → c.row_of-header.result.size ≡ 6
 header_is c = ap (λ (r : Row). r.size) c.row_of-header.ensures
 
 pub returns-then-place-header : goal.returns-then-place-header

@@ -16,19 +16,20 @@ use borrow.Author.Rules.{rules}
 use Rattle.totals.proofs.judging.hundredths.Goals as goal
 use Rattle.totals.proofs.judging.hundredths.Lts as at
 use Rattle.totals.proofs.judging.hundredths.Reads as reads
+use Rattle.totals.proofs.judging.hundredths.Tie as tie
 
-a_fits : (c : at.Start reads.Pre reads.Post) → SFits w64 c.args.l.a
+a_fits : (c : at.Start tie.the-claims reads.Pre reads.Post) → SFits w64 c.args.l.a
 a_fits c = search rules
 
-b_fits : (c : at.Start reads.Pre reads.Post) → SFits w64 c.args.l.b
+b_fits : (c : at.Start tie.the-claims reads.Pre reads.Post) → SFits w64 c.args.l.b
 b_fits c = search rules
 
-c_fits : (c : at.Start reads.Pre reads.Post) → SFits w64 c.args.l.c
+c_fits : (c : at.Start tie.the-claims reads.Pre reads.Post) → SFits w64 c.args.l.c
 c_fits c = search rules
 
 -- the sizes of the three numbers, as they were found
 module _ (c : goal.After-size-c) where
-  abbrev start : at.Start reads.Pre reads.Post
+  abbrev start : at.Start tie.the-claims reads.Pre reads.Post
   start = c.before.before.before.before.before.before
 
   abbrev l : Length

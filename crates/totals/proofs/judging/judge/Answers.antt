@@ -13,9 +13,10 @@ use borrow.Author.Rules.{rules}
 use Rattle.totals.proofs.judging.judge.Goals as goal
 use Rattle.totals.proofs.judging.judge.Lts as at
 use Rattle.totals.proofs.judging.judge.Reads as reads
+use Rattle.totals.proofs.judging.judge.Tie as tie
 
 -- what was recognised, by its case
-judged : (c : at.After-recognise reads.Pre reads.Post) {v : Verdict} → c.recognise.result ≡ v → Recognised (points_of c.args.curve) v
+judged : (c : at.After-recognise tie.the-claims reads.Pre reads.Post) {v : Verdict} → c.recognise.result ≡ v → Recognised (points_of c.args.curve) v
 judged c e = subst (Recognised (points_of c.args.curve)) e c.recognise.ensures
 
 pub measured-requires : goal.measured-requires

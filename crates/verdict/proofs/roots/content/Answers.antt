@@ -20,9 +20,10 @@ use Rattle.verdict.proofs.Contents.{content-sized}
 use Rattle.verdict.proofs.roots.content.Goals as goal
 use Rattle.verdict.proofs.roots.content.Lts as at
 use Rattle.verdict.proofs.roots.content.Reads as reads
+use Rattle.verdict.proofs.roots.content.Tie as tie
 
 module _ (c : goal.After-gcd_all) where
-  abbrev o : at.Start reads.Pre reads.Post
+  abbrev o : at.Start tie.the-claims reads.Pre reads.Post
   o = c.before.before.before
 
   abbrev n : Octic

@@ -24,6 +24,7 @@ use Rattle.verdict.proofs.Decided.{cubic-found}
 use Rattle.verdict.proofs.rules.end_generator.Goals as goal
 use Rattle.verdict.proofs.rules.end_generator.Lts as at
 use Rattle.verdict.proofs.rules.end_generator.Reads as reads
+use Rattle.verdict.proofs.rules.end_generator.Tie as tie
 
 pub returns-then-not-is_zero : goal.returns-then-not-is_zero
 returns-then-not-is_zero c κ w g =
@@ -42,7 +43,7 @@ line_generator-requires c =
     (rw c.multiple.ensures (wider (lit≤ tt) (multiple-within 6 h.0)), rw c.multiple-2.ensures (wider (lit≤ tt) (multiple-within 2 h.1)), wider (lit≤ tt) h.2)
 
 -- ---- with what the line says
-module _ (c : at.After-line_generator reads.Pre reads.Post) where
+module _ (c : at.After-line_generator tie.the-claims reads.Pre reads.Post) where
   abbrev o : goal.Start
   o = c.before.before.before.before.before
 

@@ -27,6 +27,7 @@ use Rattle.verdict.proofs.Decided.{cubic-not, end_coprime}
 use Rattle.verdict.proofs.rules.line_generator.Goals as goal
 use Rattle.verdict.proofs.rules.line_generator.Lts as at
 use Rattle.verdict.proofs.rules.line_generator.Reads as reads
+use Rattle.verdict.proofs.rules.line_generator.Tie as tie
 
 pub product-requires : goal.product-requires
 product-requires c = (wider (lit≤ tt) c.requires.1, wider (lit≤ tt) c.requires.1)
@@ -35,7 +36,7 @@ pub product-requires-2 : goal.product-requires-2
 product-requires-2 c = (wider (lit≤ tt) c.requires.0, wider (lit≤ tt) c.requires.2)
 
 -- ---- what the test says of the rule
-module _ (c : at.After-equal reads.Pre reads.Post) where
+module _ (c : at.After-equal tie.the-claims reads.Pre reads.Post) where
   abbrev o : goal.Start
   o = c.before.before.before
 
@@ -86,7 +87,7 @@ module _ (c : goal.After-difference) where
   abbrev r : goal.Else-not-equal
   r = c.before.before.before.before
 
-  abbrev t : at.After-equal reads.Pre reads.Post
+  abbrev t : at.After-equal tie.the-claims reads.Pre reads.Post
   t = r.before
 
   abbrev e : Pair

@@ -19,6 +19,7 @@ use Rattle.verdict.proofs.Decided.{quintic-not}
 use Rattle.verdict.proofs.rules.quintic_generator.Goals as goal
 use Rattle.verdict.proofs.rules.quintic_generator.Lts as at
 use Rattle.verdict.proofs.rules.quintic_generator.Reads as reads
+use Rattle.verdict.proofs.rules.quintic_generator.Tie as tie
 
 pub end_generator-requires : goal.end_generator-requires
 end_generator-requires c = let h = c.requires in (h 2, h 3, h 4)
@@ -80,7 +81,7 @@ pub product-requires-2 : goal.product-requires-2
 product-requires-2 c = let h = (o (s c.before)).requires in (wider (lit≤ tt) (h 0), wider (lit≤ tt) (h 3))
 
 -- ---- what the first test says of the rule
-module _ (c : at.After-equal reads.Pre reads.Post) where
+module _ (c : at.After-equal tie.the-claims reads.Pre reads.Post) where
   abbrev k : goal.In-Found
   k = c.before.before.before
 
@@ -100,11 +101,11 @@ pub product-requires-4 : goal.product-requires-4
 product-requires-4 c = let h = (o (s (k c.before.before))).requires in (wider (lit≤ tt) (h 0), wider (lit≤ tt) (h 4))
 
 -- ---- what the second test says
-module _ (c : at.After-equal2 reads.Pre reads.Post) where
+module _ (c : at.After-equal2 tie.the-claims reads.Pre reads.Post) where
   abbrev third : goal.Else-not-equal
   third = c.before.before.before
 
-  abbrev q : at.After-equal reads.Pre reads.Post
+  abbrev q : at.After-equal tie.the-claims reads.Pre reads.Post
   q = third.before
 
   fourth-is : Tells (times (m (k q)) (m (k q)) ≡ times (d0 (s (k q))) (d4 (s (k q)))) c.equal-2.result

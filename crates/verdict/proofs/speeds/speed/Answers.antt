@@ -18,8 +18,9 @@ use Rattle.curve.specs.Curves.{norm_polynomial}
 use Rattle.verdict.proofs.speeds.speed.Goals as goal
 use Rattle.verdict.proofs.speeds.speed.Lts as at
 use Rattle.verdict.proofs.speeds.speed.Reads as reads
+use Rattle.verdict.proofs.speeds.speed.Tie as tie
 
-module _ (s : at.Start reads.Pre reads.Post) where
+module _ (s : at.Start tie.the-claims reads.Pre reads.Post) where
   abbrev w : Quadratic
   w = s.args.w
 
@@ -27,13 +28,13 @@ module _ (s : at.Start reads.Pre reads.Post) where
   sizes = (s.requires 0).re ▸ (s.requires 0).im ▸ (s.requires 1).re ▸ (s.requires 1).im ▸ (s.requires 2).re ▸ (s.requires 2).im ▸ done
 
 -- the start of the function, from the places on the way
-abbrev o1 : goal.After-norm → (at.Start reads.Pre reads.Post)
+abbrev o1 : goal.After-norm → (at.Start tie.the-claims reads.Pre reads.Post)
 o1 c = c.before.before.before.before
 
-abbrev o2 : goal.After-norm-2 → (at.Start reads.Pre reads.Post)
+abbrev o2 : goal.After-norm-2 → (at.Start tie.the-claims reads.Pre reads.Post)
 o2 c = o1 c.before.before.before
 
-abbrev o3 : goal.After-norm-3 → (at.Start reads.Pre reads.Post)
+abbrev o3 : goal.After-norm-3 → (at.Start tie.the-claims reads.Pre reads.Post)
 o3 c = o2 c.before.before
 
 pub norm-requires : goal.norm-requires
