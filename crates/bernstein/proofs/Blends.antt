@@ -96,5 +96,5 @@ blend-within {f} a b h i = record {
 }
 
 pub blends-within : {f : Series ℤ} {B : ℕ} (a b : ℤ) (n : ℕ) → ((i : ℕ) → Within B (f i)) → (i : ℕ) → Within ((nat_abs a + nat_abs b) ^ n * B) (blends wholes a b n f i)
-blends-within a b zero h i = rw (pow-zero, one-mul) (h i)
-blends-within a b (suc n) h i = rw (pow-suc, mul_assoc) (blends-within a b n (blend-within a b h) i)
+blends-within {f = f} {B = B} a b zero h i = rw (pow-zero, one-mul) (h i)
+blends-within {f = f} {B = B} a b (suc n) h i = rw (pow-suc, mul_assoc) (blends-within {f = blend wholes a b f} {B = (nat_abs a + nat_abs b) * B} a b n (blend-within a b h) i)
