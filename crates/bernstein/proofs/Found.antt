@@ -11,7 +11,7 @@ use Rattle.poly.specs.Terms.{Above}
 use Rattle.poly.proofs.Series.{Series, conv, series, constant}
 use Rattle.poly.proofs.Forms.{power}
 use Rattle.poly.proofs.Top.{conv_above}
-use Rattle.bernstein.proofs.Polynomials.{t, 1−t, t-first, t_later, power-first, through-t, blended}
+use Rattle.bernstein.proofs.Polynomials.{1−t, t-first, t_later, power-first, through-t, blended}
 
 module _ {A : Type 0} {C : Coefficients A} (R : Ring C) where
   open C use {none as 𝟎, plus as ◌⊕◌, times as ◌⊗◌}

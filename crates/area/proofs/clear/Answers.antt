@@ -1,10 +1,9 @@
 -- `area::clear` meets its contract. The invariant: i zeros, and then what was there from i on.
-use mathlib.Core.Path.{◌≡◌, refl, ap, ◌∙◌}
-use mathlib.Core.List.{List, ◌++◌}
-use Prim.Native.Nat.{◌≤◌, ◌-◌}
+use mathlib.Core.Path.{refl, ap, ◌∙◌}
+use mathlib.Core.List.{List}
 use native.Mathlib.Omega.{arith}
 use lib.IntN.{ℤ, pos}
-use lib.ListN.{length, drop, replicate, set, length-set}
+use lib.ListN.{set, length-set}
 use Rattle.whole.proofs.Fill.{fill_more, fill-all}
 use Rattle.area.proofs.clear.Goals as goal
 

@@ -1,11 +1,9 @@
 -- What the loops of `clear` keep.
-use mathlib.Core.Path.{◌≡◌, refl, ap, ◌∙◌}
-use mathlib.Core.List.{List, ◌++◌}
+use mathlib.Core.Path.{◌≡◌}
+use mathlib.Core.List.{◌++◌}
 use Prim.Native.Nat.{◌≤◌, ◌-◌}
-use native.Mathlib.Omega.{arith}
-use lib.IntN.{ℤ, pos}
-use lib.ListN.{length, drop, replicate, set, length-set}
-use Rattle.whole.proofs.Fill.{fill_more, fill-all}
+use lib.IntN.{pos}
+use lib.ListN.{length, drop, replicate}
 use Rattle.area.proofs.clear.Given as goal
 
 abbrev pub invariant-loop-i : goal.invariant-loop-i

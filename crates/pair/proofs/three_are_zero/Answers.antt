@@ -1,5 +1,4 @@
 -- `pair::three_are_zero` meets its contract.
-use borrow.Author.Rules.{rules}
 use Rattle.whole.proofs.Flags.{told, untold, told-map}
 use Rattle.pair.proofs.Parts.{three-none}
 use Rattle.pair.proofs.three_are_zero.Goals as goal

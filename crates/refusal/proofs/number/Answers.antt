@@ -1,5 +1,4 @@
 -- `number` meets its contract: it is the table of the definitions, row by row.
-use borrow.Author.Rules.{rules}
 use mathlib.Core.Path.{sym, ap}
 use Rattle.refusal.specs.Table.{number_of}
 use Rattle.refusal.proofs.number.Goals as goal

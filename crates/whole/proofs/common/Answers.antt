@@ -1,5 +1,5 @@
 -- `whole::common` meets its contract: the odd parts' divisor, and the smaller power of 2. It divides a number that fits, so it fits.
-use mathlib.Core.Path.{◌≡◌, sym, subst}
+use mathlib.Core.Path.{sym, subst}
 use mathlib.Core.Logic.{◌≢◌}
 use Prim.Native.Nat.{ℕ, ◌*◌, ◌/◌, ◌%◌, ◌^◌, ◌≤◌, ◌<◌}
 use native.Mathlib.Nat.{mod-eq_of_lt, lt_of_le_of_lt}

@@ -2,11 +2,10 @@
 use mathlib.Core.Path.{ap}
 use Prim.Native.Nat.{◌/◌, ◌%◌}
 use native.Mathlib.Nat.{div-add-mod', pos_of_ne-zero}
-use borrow.Author.Rules.{rules}
 use lib.IntN.{pos}
 use Rattle.whole.proofs.Wholes.{wholes_ring}
 use Rattle.whole.proofs.Divisor.{division_common}
-use Rattle.whole.proofs.Evens.{Shared, shared_greatest, greatest_shared, with_zero}
+use Rattle.whole.proofs.Evens.{shared_greatest, greatest_shared, with_zero}
 use Rattle.whole.proofs.common_with.Goals as goal
 
 pub returns-then-b-eq0 : goal.returns-then-b-eq0

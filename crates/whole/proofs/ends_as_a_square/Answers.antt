@@ -1,5 +1,4 @@
 -- `whole::ends_as_a_square` meets its contract.
-use borrow.Author.Rules.{rules}
 use Rattle.whole.proofs.Squares.{ends_tell}
 use Rattle.whole.proofs.ends_as_a_square.Goals as goal
 

@@ -3,7 +3,6 @@ use mathlib.Core.Path.{◌≡◌, ◌∙◌}
 use Prim.Native.Nat.{ℕ, ◌-◌, ◌*◌, ◌/◌, ◌%◌, ◌^◌, ◌≤◌, ◌<◌}
 use native.Mathlib.Nat.{mod-eq_of_lt, one-mul, lt_of_lt_of_le, lt_of_le_of_lt, le_trans, le_of_eq}
 use native.Mathlib.Omega.{arith}
-use borrow.Author.Rules.{rules}
 use lib.Dec.{lit<}
 use lib.Count.{count_leading_zeros, leading_le, leading_length}
 use lib.Pow.{pow_mono, pow_pos, shr_lt}

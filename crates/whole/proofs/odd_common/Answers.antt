@@ -1,13 +1,12 @@
 -- `whole::odd_common` meets its contract. The invariant: x and y are odd, and have the common divisors of a and b.
-use mathlib.Core.Path.{◌≡◌, subst}
+use mathlib.Core.Path.{subst}
 use mathlib.Core.Logic.Iff
-use mathlib.Core.Logic.{◌↔◌}
-use Prim.Native.Nat.{ℕ, ◌+◌, ◌%◌}
+use Prim.Native.Nat.{ℕ}
 use native.Mathlib.Omega.{arith}
-use lib.IntN.{ℤ, pos}
+use lib.IntN.{pos}
 use Rattle.whole.specs.Coefficients.{Divides}
 use Rattle.whole.specs.Number.{wholes}
-use Rattle.whole.proofs.Evens.{Both, both_turned, odd_part_le, odd_step, shared_greatest}
+use Rattle.whole.proofs.Evens.{both_turned, odd_part_le, odd_step, shared_greatest}
 use Rattle.whole.proofs.odd_common.Goals as goal
 
 pub loop-x-init : goal.loop-x-init

@@ -1,13 +1,9 @@
 -- What the loops of `odd_common` keep.
-use mathlib.Core.Path.{◌≡◌, subst}
-use mathlib.Core.Logic.Iff
+use mathlib.Core.Path.{◌≡◌}
 use mathlib.Core.Logic.{◌↔◌}
-use Prim.Native.Nat.{ℕ, ◌+◌, ◌%◌}
-use native.Mathlib.Omega.{arith}
-use lib.IntN.{ℤ, pos}
-use Rattle.whole.specs.Coefficients.{Divides}
-use Rattle.whole.specs.Number.{wholes}
-use Rattle.whole.proofs.Evens.{Both, both_turned, odd_part_le, odd_step, shared_greatest}
+use Prim.Native.Nat.{◌+◌, ◌%◌}
+use lib.IntN.{ℤ}
+use Rattle.whole.proofs.Evens.{Both}
 use Rattle.whole.proofs.odd_common.Given as goal
 
 abbrev pub invariant-loop-x : goal.invariant-loop-x
