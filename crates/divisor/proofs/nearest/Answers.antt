@@ -3,7 +3,8 @@ use mathlib.Core.Path.{◌≡◌, ap, ◌∙◌, subst₂}
 use borrow.Author.Rules.{rules}
 use lib.Dec.{lit≤}
 use mir.Syntax.{w64}
-use mir.Val.{to_z, of_z}
+use lib.IntN.{ℤ}
+use mir.Val.{SFits, to_z, of_z}
 use mir.ValLaws.{to_z-of_z}
 use Rattle.whole.specs.Promise.{Nearest}
 use Rattle.pair.specs.declared.Pair.{Pair}
@@ -18,32 +19,26 @@ numerator-n-requires c = (wider (lit≤ tt) c.requires.0, c.requires.1)
 pub norm-d-requires : goal.norm-d-requires
 norm-d-requires c = wider (lit≤ tt) c.requires.1
 
-module _ (c : goal.After-struct_told-2-1) where
-  abbrev s : goal.Start
-  s = c.before.before.before.before
+-- what the machine reads of the parts of a conj(b) is these parts
+x-is : (a b : Pair) {top : Pair} → top ≡ times a (conjugate b) → SFits w64 top.re → to_z w64 (of_z w64 top.re) ≡ (times a (conjugate b)).re
+x-is a b {top} e f = to_z-of_z w64 top.re f ∙ ap (λ p. p.re) e
 
-  abbrev top : Pair
-  top = c.numerator-n.result
+y-is : (a b : Pair) {top : Pair} → top ≡ times a (conjugate b) → SFits w64 top.im → to_z w64 (of_z w64 top.im) ≡ (times a (conjugate b)).im
+y-is a b {top} e f = to_z-of_z w64 top.im f ∙ ap (λ p. p.im) e
 
-  x-is : to_z w64 (of_z w64 top.re) ≡ (times s.args.a (conjugate s.args.b)).re
-  x-is = to_z-of_z w64 top.re (search rules) ∙ ap (λ p. p.re) c.numerator-n.ensures
-
-  y-is : to_z w64 (of_z w64 top.im) ≡ (times s.args.a (conjugate s.args.b)).im
-  y-is = to_z-of_z w64 top.im (search rules) ∙ ap (λ p. p.im) c.numerator-n.ensures
-
-  d-is : to_z w64 (of_z w64 c.norm-d.result) ≡ norm s.args.b
-  d-is = to_z-of_z w64 _ (search rules) ∙ c.norm-d.ensures
+d-is : {d n : ℤ} → SFits w64 d → d ≡ n → to_z w64 (of_z w64 d) ≡ n
+d-is f e = to_z-of_z w64 _ f ∙ e
 
 pub nearest-requires : goal.nearest-requires
-nearest-requires c = rw (d-is c) (norm_some (s c).args.b (s c).requires.2)
+nearest-requires c = rw (d-is (search rules) c.norm-d.ensures) (norm_some c.args.b c.requires.2)
 
 pub nearest-requires-2 : goal.nearest-requires-2
-nearest-requires-2 c = nearest-requires c.before κs
+nearest-requires-2 c = rw (d-is (search rules) c.norm-d.ensures) (norm_some c.args.b c.requires.2)
 
 pub returns : goal.returns
 returns c =
-    let t = c.before.before in
+    let d = d-is (search rules) c.norm-d.ensures in
     record {
-      re = rw (to_z-of_z w64 c.nearest.result (search rules)) (subst₂ (λ n d. Nearest n d c.nearest.result) (x-is t) (d-is t) c.nearest.ensures);
-      im = rw (to_z-of_z w64 c.nearest-2.result (search rules)) (subst₂ (λ n d. Nearest n d c.nearest-2.result) (y-is t) (d-is t) c.nearest-2.ensures);
+      re = rw (to_z-of_z w64 c.nearest.result (search rules)) (subst₂ (λ n d. Nearest n d c.nearest.result) (x-is c.args.a c.args.b c.numerator-n.ensures (search rules)) d c.nearest.ensures);
+      im = rw (to_z-of_z w64 c.nearest-2.result (search rules)) (subst₂ (λ n d. Nearest n d c.nearest-2.result) (y-is c.args.a c.args.b c.numerator-n.ensures (search rules)) d c.nearest-2.ensures);
     }
