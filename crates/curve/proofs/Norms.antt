@@ -31,7 +31,7 @@ use Rattle.poly.proofs.Top.{length_above, conv_above, conv_lead, top_some, find-
 use Rattle.poly.proofs.Forms.{form, form-plus, form-product}
 use Rattle.pair.specs.declared.Pair.{Pair}
 use Rattle.pair.specs.Pairs.{pair, pairs, norm}
-use Rattle.pair.proofs.Laws.{pairs_ring, norm-zero, norm_some, pair-zero?}
+use Rattle.pair.proofs.Laws.{pairs_ring, norm-zero, pair-zero?}
 use Rattle.curve.specs.Curves.{reals, imaginaries, norm_polynomial}
 
 -- ---- N as a series, from D as one

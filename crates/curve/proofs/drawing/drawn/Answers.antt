@@ -1,6 +1,5 @@
 -- `drawing::drawn` meets its contract, by the kind of curve.
 use mathlib.Core.Path.{sym, subst}
-use borrow.Author.Rules.{rules}
 use Rattle.poly.specs.Polynomials.{Same}
 use Rattle.pair.specs.Pairs.{pairs, AllWithin}
 use Rattle.curve.specs.declared.Legs.{Legs}

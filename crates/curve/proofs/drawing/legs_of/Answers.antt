@@ -1,6 +1,5 @@
 -- `drawing::legs_of` meets its contract, by the kind of curve.
 use mathlib.Core.Path.{◌≡◌, sym, subst}
-use borrow.Author.Rules.{rules}
 use Rattle.curve.specs.declared.Curve.{Curve}
 use Rattle.bernstein.specs.Powers.{differences}
 use Rattle.curve.specs.Curves.{points_of, InRange}

@@ -1,6 +1,5 @@
 -- `ranges::in_range` meets its contract, by the kind of curve.
 use mathlib.Core.Path.{sym, subst}
-use borrow.Author.Rules.{rules}
 use Rattle.whole.specs.Number.{Tells}
 use Rattle.curve.specs.declared.Curve.{Curve}
 use Rattle.curve.specs.Curves.{points_of, InRange}
