@@ -2,7 +2,6 @@
 use borrow.Author.Rules.{rules}
 use mathlib.Core.Path.{◌≡◌, refl, ap, ◌∙◌, sym}
 use mathlib.Core.Bool.{◌&&◌}
-use mathlib.Core.Logic.{⊎_elim}
 use Prim.Native.Nat.{ℕ, ◌+◌, ◌*◌, ◌≤◌}
 use native.Mathlib.Omega.{arith}
 use lib.Dec.{leb}
@@ -14,6 +13,7 @@ use Rattle.record.specs.Records.{all_within}
 use Rattle.record.proofs.Signs.{word-within, word_outside}
 use Rattle.record.proofs.Loops.{within_none, within_fail, within_pass}
 use Rattle.record.proofs.steps.all_within.Goals as goal
+use Rattle.record.proofs.steps.all_within.Goals.{then-word_at-gt40000, else-word_at-gt40000}
 
 pub loop-left-init : goal.loop-left-init
 loop-left-init c = (refl, search rules)
@@ -25,10 +25,10 @@ loop-left-preserved c =
     let seen = c.loop-left in
     let rest = c.args.rest.now in
     let read = ap (λ (n : ℕ). leb (nat_abs (signed_of n)) coordinate_reach) (sym word.0) in (
-      ⊎_elim
-          (λ w. within_fail seen.within rest seen.at seen.left more (read ∙ word_outside _ word.1 w.0.taken) w.1)
-          (λ w. within_pass seen.within rest seen.at seen.left more (read ∙ word-within _ word.1 w.0.left) w.1)
-          c.if-word_at-gt40000.branch
+      elim c.if-word_at-gt40000.branch [
+        | then-word_at-gt40000 w ↦ within_fail seen.within rest seen.at seen.left more (read ∙ word_outside _ word.1 w.if-word_at-gt40000.true) w.within-is
+        | else-word_at-gt40000 w ↦ within_pass seen.within rest seen.at seen.left more (read ∙ word-within _ word.1 w.if-word_at-gt40000.false) w.within-is
+      ]
           ∙ seen.invariant.0,
       omega arith,
     )

@@ -2,7 +2,6 @@
 use borrow.Author.Rules.{rules}
 use mathlib.Core.Path.{◌≡◌, sym, ◌∙◌}
 use mathlib.Core.Bool.{true, false≢true}
-use mathlib.Core.Logic.{⊎_elim}
 use mathlib.Core.List.{List}
 use Prim.Native.Nat.{ℕ}
 use native.Mathlib.Omega.{arith}
@@ -12,6 +11,7 @@ use Rattle.record.specs.Numbers.{word_at}
 use Rattle.record.specs.Records.{may_stand}
 use Rattle.record.specs.Steps.{head_word, Headless}
 use Rattle.record.proofs.steps.first_step.Goals as goal
+use Rattle.record.proofs.steps.first_step.Goals.{then-rest-ge4+else-word_at-head_word, else-rest-ge4}
 
 pub record_step-requires : goal.record_step-requires
 unfolding may_stand if◌then◌else◌
@@ -26,7 +26,7 @@ no_header f Quintic m h = false≢true m
 
 pub headless_step-requires : goal.headless_step-requires
 headless_step-requires c =
-    ⊎_elim
-    (λ w. no_header (λ e. w.3.left (w.1.ensures.0 ∙ e ∙ sym w.2.ensures)))
-    (λ w k m h. omega (arith, w.left, h.long))
-    c.if-rest-ge4.branch
+    elim c.if-rest-ge4.branch [
+      | then-rest-ge4+else-word_at-head_word w ↦ no_header (λ e. w.if-word_at-head_word.false (w.word_at.ensures.0 ∙ e ∙ sym w.head_word.ensures))
+      | else-rest-ge4 w ↦ λ k m h. omega (arith, w.if-rest-ge4.false, h.long)
+    ]

@@ -2,7 +2,6 @@
 use borrow.Author.Rules.{rules}
 use mathlib.Core.Path.{◌≡◌, sym, ◌∙◌}
 use mathlib.Core.Bool.{false, false≢true}
-use mathlib.Core.Logic.{⊎_elim}
 use mathlib.Core.List.{List}
 use Prim.Native.Nat.{ℕ}
 use native.Mathlib.Omega.{arith}
@@ -12,6 +11,7 @@ use Rattle.record.specs.Numbers.{word_at}
 use Rattle.record.specs.Records.{may_stand}
 use Rattle.record.specs.Steps.{head_word, Headless}
 use Rattle.record.proofs.steps.later_step.Goals as goal
+use Rattle.record.proofs.steps.later_step.Goals.{then-rest-ge4+else-head-head_word+else-head-head_word-2, else-rest-ge4}
 
 pub record_step-requires : goal.record_step-requires
 unfolding may_stand if◌then◌else◌
@@ -30,7 +30,9 @@ neither f g Quintic m h = g h.head
 
 pub headless_step-requires : goal.headless_step-requires
 headless_step-requires c =
-    ⊎_elim
-    (λ w. neither (λ e. w.3.left (w.1.ensures.0 ∙ e ∙ sym w.2.ensures)) (λ e. w.5.left (w.1.ensures.0 ∙ e ∙ sym w.4.ensures)))
-    (λ w k m h. omega (arith, w.left, h.long))
-    c.if-rest-ge4.branch
+    elim c.if-rest-ge4.branch [
+      | then-rest-ge4+else-head-head_word+else-head-head_word-2 w ↦ neither
+          (λ e. w.if-head-head_word.false (w.word_at-head.ensures.0 ∙ e ∙ sym w.head_word.ensures))
+          (λ e. w.if-head-head_word-2.false (w.word_at-head.ensures.0 ∙ e ∙ sym w.head_word-then-rest-ge4.ensures))
+      | else-rest-ge4 w ↦ λ k m h. omega (arith, w.if-rest-ge4.false, h.long)
+    ]

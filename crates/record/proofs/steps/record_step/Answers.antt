@@ -2,66 +2,69 @@
 use borrow.Author.Rules.{rules}
 use borrow.Author.Tests.{eq-eqb, lt-ltb, le-ltb}
 use mathlib.Core.Path.{◌≡◌, sym, ap, ◌∙◌}
+use mathlib.Core.Bool.{Bool, true, false}
 use mathlib.Core.List.{List}
-use Prim.Native.Nat.{ℕ}
+use Prim.Native.Nat.{ℕ, ◌<◌, ◌≤◌}
 use native.Mathlib.Omega.{arith}
+use lib.ListN.{length, get_or}
+use mir.Syntax.{w8}
+use mir.Val.{Fits}
+use Rattle.refusal.specs.declared.Refusal.TheVariants as refusal
 use Rattle.refusal.specs.Answers.{if◌then◌else◌}
 use Rattle.record.specs.declared.kinds.Kind.{Kind}
 use Rattle.record.specs.declared.kinds.Row.{Row}
+use Rattle.record.specs.declared.steps.Step.{Step}
+use Rattle.record.specs.declared.steps.Step.TheVariants.{Fault, Record}
 use Rattle.record.specs.Numbers.{size_of, coordinates}
 use Rattle.record.specs.Kinds.{row_of, words as words_of}
-use Rattle.record.specs.Records.{all_within, sized_step, step_of}
+use Rattle.record.specs.Records.{may_stand, all_within, sized_step, step_of}
+use Rattle.record.specs.Steps.{Headed}
 use Rattle.record.proofs.Table.{row-known}
 use Rattle.record.proofs.Heads.{head-size, headed_step}
 use Rattle.record.proofs.steps.record_step.Goals as goal
-use Rattle.record.proofs.steps.record_step.Lts as at
-use Rattle.record.proofs.steps.record_step.Reads as reads
-use Rattle.record.proofs.steps.record_step.Tie as tie
 
--- what the head shows
-module _ (c : at.After-row_of tie.the-claims reads.Pre reads.Post) where
-  abbrev kind : Kind
-  kind = c.args.kind
-
-  abbrev rest : List ℕ
-  rest = c.args.rest.now
-
-  size_is : c.row_of.result.size ≡ (row_of kind).size
-  size_is = ap (λ (r : Row). r.size) c.row_of.ensures
+-- where the rest begins with a kind's head, and a row of the table is that kind's
+module _ (kind : Kind) (rest : List ℕ) (bytes : (i : ℕ) → Fits w8 (get_or rest i 0)) (first : Bool) (h : may_stand first kind ≡ true × Headed kind rest) {row : Row} (is : row ≡ row_of kind) where
+  size_is : row.size ≡ (row_of kind).size
+  size_is = ap (λ (r : Row). r.size) is
 
   sized : size_of rest ≡ (row_of kind).size
-  sized = head-size kind rest c.shared_slice_known-1.given c.requires.1
+  sized = head-size kind rest bytes h.1
 
-  step_is : step_of c.args.first rest ≡ sized_step kind rest
-  step_is = headed_step kind rest c.shared_slice_known-1.given c.requires.1 c.args.first c.requires.0
+  step_is : step_of first rest ≡ sized_step kind rest
+  step_is = headed_step kind rest bytes h.1 first h.0
+
+  cut_short : length rest < row.size → Fault refusal.Cut 0 ≡ step_of first rest
+  unfolding sized_step if◌then◌else◌
+  cut_short short = rw (step_is, eq-eqb _ _ sized, lt-ltb _ _ (rw size_is at short))
+
+  -- by the test of the coordinates, as many as the table says
+  module _ (long : row.size ≤ length rest) {b : Bool} (range : b ≡ all_within (coordinates (words_of kind) rest 4)) where
+    found : b ≡ true → Record kind ≡ step_of first rest
+    unfolding sized_step if◌then◌else◌
+    found e = rw (step_is, eq-eqb _ _ sized, le-ltb _ _ (rw size_is at long), sym range ∙ e)
+
+    out_of_range : b ≡ false → Fault refusal.Range 0 ≡ step_of first rest
+    unfolding sized_step if◌then◌else◌
+    out_of_range e = rw (step_is, eq-eqb _ _ sized, le-ltb _ _ (rw size_is at long), sym range ∙ e)
 
 pub returns-then-rest-row_of : goal.returns-then-rest-row_of
-unfolding sized_step if◌then◌else◌
-returns-then-rest-row_of c =
-    let k = c.before.before in
-    rw (step_is k, eq-eqb _ _ (sized k), lt-ltb _ _ (rw (size_is k) at c.if-rest-row_of.true))
+returns-then-rest-row_of c = cut_short c.args.kind c.args.rest.now c.type_inv.rest c.args.first c.requires c.row_of.ensures c.if-rest-row_of.true
 
 pub all_within-requires : goal.all_within-requires
 all_within-requires c =
-    let k = c.before.before.before in
-    omega (arith, c.words.ensures, (row-known (kind k)).holds, size_is k, c.if-rest-row_of.false)
+    omega (arith, c.words.ensures, (row-known c.args.kind).holds, ap (λ (r : Row). r.size) c.row_of.ensures, c.if-rest-row_of.false)
 
--- the test of the coordinates, as many as the table says
-range_is : (c : at.After-all_within tie.the-claims reads.Pre reads.Post) → let k = c.before.before.before.before in c.all_within.result ≡ all_within (coordinates (words_of (kind k)) (rest k) 4)
-range_is c =
-    let k = c.before.before.before.before in
-    c.all_within.ensures ∙ ap (λ (n : ℕ). all_within (coordinates n (rest k) 4)) c.words.ensures
+-- as many coordinates as the table says
+range_is : {b : Bool} {n : ℕ} (kind : Kind) (rest : List ℕ) → b ≡ all_within (coordinates n rest 4) → n ≡ words_of kind → b ≡ all_within (coordinates (words_of kind) rest 4)
+range_is kind rest e n = e ∙ ap (λ (n : ℕ). all_within (coordinates n rest 4)) n
 
 pub returns-then-all_within : goal.returns-then-all_within
-unfolding sized_step if◌then◌else◌
 returns-then-all_within c =
-    let e = c in
-    let k = e.before.before in
-    rw (step_is k, eq-eqb _ _ (sized k), le-ltb _ _ (rw (size_is k) at e.if-rest-row_of.false), sym (range_is c.before) ∙ c.if-all_within.true)
+    found c.args.kind c.args.rest.now c.type_inv.rest c.args.first c.requires c.row_of.ensures c.if-rest-row_of.false
+    (range_is c.args.kind c.args.rest.now c.all_within.ensures c.words.ensures) c.if-all_within.true
 
 pub returns-else-all_within : goal.returns-else-all_within
-unfolding sized_step if◌then◌else◌
 returns-else-all_within c =
-    let e = c in
-    let k = e.before.before in
-    rw (step_is k, eq-eqb _ _ (sized k), le-ltb _ _ (rw (size_is k) at e.if-rest-row_of.false), sym (range_is c.before) ∙ c.if-all_within.false)
+    out_of_range c.args.kind c.args.rest.now c.type_inv.rest c.args.first c.requires c.row_of.ensures c.if-rest-row_of.false
+    (range_is c.args.kind c.args.rest.now c.all_within.ensures c.words.ensures) c.if-all_within.false

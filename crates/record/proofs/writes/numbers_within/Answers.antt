@@ -20,11 +20,11 @@ pub loop-k-init : goal.loop-k-init
 loop-k-init c = (refl, search rules)
 
 -- what the call says of the element itself
-element : (c : at.After-is_within tie.the-claims reads.Pre reads.Post goal.the-invariant-loop-k goal.the-decreases-loop-k) → leb (nat_abs (get_or c.args.xs.now c.loop-k.k (pos 0))) coordinate_reach ≡ c.is_Within.result
+element : (c : at.After-is_within tie.the-claims reads.Pre reads.Post goal.the-invariant-loop-k goal.the-decreases-loop-k) → leb (nat_abs (get_or c.args.xs.now c.loop-k.k (pos 0))) coordinate_reach ≡ c.is_within.result
 element c =
     let x = get_or c.args.xs.now c.loop-k.k (pos 0) in
     ap (λ (z : ℤ). leb (nat_abs z) coordinate_reach) (sym (to_z-of_z w64 x (record { sfits = c.is_within-arg-1.given })))
-    ∙ sym c.is_Within.ensures
+    ∙ sym c.is_within.ensures
 
 pub returns-then-not-is_within : goal.returns-then-not-is_within
 returns-then-not-is_within c =

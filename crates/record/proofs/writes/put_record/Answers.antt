@@ -13,10 +13,10 @@ pub put_numbers-requires : goal.put_numbers-requires
 put_numbers-requires c =
     let h = c in
     let s = h in
-    (h.put_head.auto.0 ∙ s.requires.0 ∙ s.requires.1, s.requires.2)
+    (h.put_head.auto.bytes ∙ s.requires.0 ∙ s.requires.1, s.requires.2)
 
 pub shape_of-bytes : goal.shape_of-bytes
-shape_of-bytes c = let h = c in h.put_numbers.auto.0 ∙ h.put_head.auto.0
+shape_of-bytes c = let h = c in h.put_numbers.auto.bytes ∙ h.put_head.auto.bytes
 
 pub returns : goal.returns
 returns c =
