@@ -9,9 +9,7 @@ use lib.ListN.{length}
 use Rattle.text.specs.Steps.{HoldsText}
 use Rattle.text.proofs.Held.{ends_written, ends_full}
 use Rattle.text.proofs.ended.Goals as goal
-use Rattle.text.proofs.ended.Lts as at
-use Rattle.text.proofs.ended.Reads as reads
-use Rattle.text.proofs.ended.Tie as tie
+use Rattle.text.proofs.ended.Goals.{in-At+else-end-area, in_default}
 
 pub returns-then-end-area : goal.returns-then-end-area
 returns-then-end-area c =
@@ -21,16 +19,12 @@ returns-then-end-area c =
     ends_written area found.in-At.end found.in-At.is c.clear.ensures
 
 -- no text is held up to this place, or it did not fit
-too_long : (c : at.At-match-branch tie.the-claims reads.Pre reads.Post) → let a = c.args in (text : List ℕ) → HoldsText a.area.now text a.place → length a.area.now < length text
-too_long c text h =
-    let area = c.args.area.now in
-    ⊎_elim
-    (λ w. let held = subst (HoldsText area text) w.1.given.1 h in absurd (omega (arith, w.3.left, held.1)))
-    (λ w. subst (HoldsText area text) w.1.given.1 h)
-    c.in-At.branch
-
 pub returns : goal.returns
 returns c =
-    let cleared = c in
-    let joined = cleared.before.before in
-    ends_full joined.args.area.now joined.args.place (too_long joined) cleared.clear-2.ensures
+    ends_full c.args.area.now c.args.place
+    (λ text h.
+        elim c.match-place.branch [
+          in-At+else-end-area w ↦ let held = subst (HoldsText c.args.area.now text) w.in-At.is h in absurd (omega (arith, w.if-end-area.false, held.1))
+        | in_default w ↦ subst (HoldsText c.args.area.now text) w.in_default.is h
+        ])
+    c.clear-2.ensures

@@ -24,7 +24,7 @@ returns-then-at-area c =
     let turn = c in
     let known = turn in
     let s = known.args in
-    let l = turn.loop in
+    let l = turn.loop-i in
     subst (λ (p : Place). Writes s.area.now p s.text.now l.area Full) (sym known.in-At.is)
     (copied_short s.area.now s.text.now l.area _ l.at l.i l.invariant.0 l.invariant.2 (omega arith) c.loop-i-test.true)
 
@@ -33,7 +33,7 @@ loop-i-preserved c =
     let turn = c in
     let known = turn in
     let s = known.args in
-    let l = turn.loop in
+    let l = turn.loop-i in
     let start = known.in-At.start in (
       omega arith,
       omega arith,

@@ -11,9 +11,9 @@ pub returns : goal.returns
 returns c =
     let put = c in
     let made = put in
-    let d = made.decimal in
+    let d = made.decimal-count in
     let s = made.args in
     subst
-    (λ (x : List ℕ). Writes s.area.now s.place x put.put.new.0 put.put.result)
-    (d.ensures.1.1 ∙ decimal-is _ _ d.ensures.1.0)
+    (λ (x : List ℕ). Writes s.area.now s.place x put.put.new.area put.put.result)
+    (d.ensures.digits ∙ decimal-is _ _ d.ensures.len)
     put.put.ensures
