@@ -3,7 +3,6 @@ use mathlib.Core.Path.{◌≡◌}
 use Prim.Native.Nat.{ℕ, ◌+◌}
 use native.Mathlib.Omega.{arith}
 use lib.Dec.{lit≤}
-use Rattle.whole.specs.Number.{wholes}
 use Rattle.whole.proofs.Wholes.{wholes_ring}
 use Rattle.poly.proofs.Wholes.{wholes_domain}
 use Rattle.root.specs.Promise.{octic, quartic, Sized, Small}

@@ -3,8 +3,6 @@ use mathlib.Core.Path.{◌≡◌, refl, sym, ◌∙◌, subst, subst₂}
 use mathlib.Core.List.{List, [], ◌∷◌}
 use mathlib.Core.Logic.{◌≢◌}
 use Prim.Native.Nat.{ℕ, suc, ◌+◌, ◌<◌}
-use native.Mathlib.Omega.{arith}
-use borrow.Author.Rules.{rules}
 use lib.Dec.{lit<}
 use lib.IntN.{ℤ, pos, ◌+ℤ◌, ◌-ℤ◌, ◌*ℤ◌, +ℤ_idr}
 use mir.Syntax.{w64}
@@ -98,8 +96,8 @@ module _ (m : Octic) (s : ℤ) (o : Each wholes Sized (octic m) × Small s × (s
             → Step M s known₁ 0 r
         told₀ r = step known₁ 0 r (bounds sizes₁ (λ ρ e k. simp (e 0, e 1, e 2, e 3, readℤ, read_pos ρ 2, kept k) (ringℤ ρ _ _ tt)))
 
-        found : (q₀ : ℤ) → Step M s known₁ 0 (Whole q₀) → UpperRoot wholes Small M 4 s (quartic (record { q0 = q₀; q1 = q₁; q2 = q₂; q3 = q₃; q4 = s; }))
-        found q₀ f₀ = search_finds m (record { q0 = q₀; q1 = q₁; q2 = q₂; q3 = q₃; q4 = s; }) o.3 o.1 (begun_more (begun₁ q₀ (s ∷ [])) f₀)
+        found : (q₀ : ℤ) → Step M s known₁ 0 (Whole q₀) → UpperRoot wholes Small M 4 s (quartic (record { q0 = q₀; q1 = q₁; q2 = q₂; q3 = q₃; q4 = s }))
+        found q₀ f₀ = search_finds m (record { q0 = q₀; q1 = q₁; q2 = q₂; q3 = q₃; q4 = s }) o.3 o.1 (begun_more (begun₁ q₀ (s ∷ [])) f₀)
 
 pub overflow_add-t : goal.overflow_add-t
 overflow_add-t c = bounds (c.requires.1 ▸ done) (λ ρ e k. simp (e 0, readℤ, kept k) (fits k _ refl))

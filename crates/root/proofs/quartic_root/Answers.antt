@@ -6,16 +6,15 @@ use Prim.Native.Nat.{ℕ, ◌*◌, ◌≤◌, ◌<◌}
 use native.Mathlib.Decide.{dec_lt}
 use native.Mathlib.Nat.{mul-le-mul}
 use native.Mathlib.Omega.{arith}
-use borrow.Author.Rules.{rules}
 use lib.Dec.{lit<}
 use lib.IntN.{ℤ, pos, neg_ℤ, nat_abs, ◌*ℤ◌}
 use lib.Signed.{◌≤ℤ◌, ◌<ℤ◌}
 use mir.Syntax.{w64}
-use mir.Val.{SFits, to_z, of_z}
+use mir.Val.{to_z, of_z}
 use mir.ValLaws.{to_z-of_z}
 use Rattle.whole.specs.declared.Exact.{Exact}
 use Rattle.whole.specs.declared.Exact.TheVariants.{Whole, Fraction}
-use Rattle.whole.specs.Number.{wholes, Tells, norm_size}
+use Rattle.whole.specs.Number.{wholes, norm_size}
 use Rattle.whole.specs.Coefficients.{at}
 use Rattle.poly.specs.Polynomials.{Same, square}
 use Rattle.whole.proofs.Bound.{fits_within}
@@ -27,7 +26,6 @@ use Rattle.poly.proofs.Lists.{square-same}
 use Rattle.poly.proofs.Roots.{root_lead}
 use Rattle.poly.proofs.Wholes.{wholes_domain, whole-zero?}
 use Rattle.root.specs.declared.Octic.{Octic}
-use Rattle.root.specs.declared.Quartic.{Quartic}
 use Rattle.root.specs.declared.Search.{Search}
 use Rattle.root.specs.declared.Search.TheVariants.{Upper, None}
 use Rattle.poly.specs.Terms.{Top}
