@@ -11,23 +11,9 @@ use Rattle.measure.proofs.LengthSizes.{root_small}
 use Rattle.text.specs.Texts.{bytes, signed}
 use Rattle.text.proofs.Pieces.{◌then◌, writes_same}
 use Rattle.report_text.proofs.lines.put_preimage.Goals as goal
-use Rattle.report_text.proofs.lines.put_preimage.Lts as at
-use Rattle.report_text.proofs.lines.put_preimage.Reads as reads
-use Rattle.report_text.proofs.lines.put_preimage.Tie as tie
 
 pub length_by-length-requires : goal.length_by-length-requires
 length_by-length-requires c = root_small c.args.p c.args.curve c.requires.1 c.requires.0
-
--- the fields of the length fit: far behind, that is no longer found
-module _ (c : at.After-length_by tie.the-claims reads.Pre reads.Post) where
-  c_fits : SFits w64 c.length_by-length.result.c
-  c_fits = search rules
-
-  a_fits : SFits w64 c.length_by-length.result.a
-  a_fits = search rules
-
-  b_fits : SFits w64 c.length_by-length.result.b
-  b_fits = search rules
 
 -- a field of the length, as it was handed over
 kept : {x y : ℤ} → SFits w64 x → x ≡ y → to_z w64 (of_z w64 x) ≡ y
@@ -35,13 +21,10 @@ kept {x} f e = to_z-of_z w64 x f ∙ e
 
 pub returns : goal.returns
 returns c =
-    let over = c in
-    let between = over in
-    let length = between in
-    let ahead = length in
-    let content = ahead in
-    let found = content.before.before.before.before in
-    let is = found.length_by-length.ensures in
-    writes_same (ap (λ (x : ℤ). bytes "pre c=" ++ signed x) (kept (c_fits found) (ap (λ (l : Length). l.c) is))) content.put_signed-a.ensures
-    then writes_same (ap (λ (x : ℤ). bytes " len=" ++ signed x) (kept (a_fits found) (ap (λ (l : Length). l.a) is))) length.put_signed-b.ensures
-    then writes_same (ap (λ (x : ℤ). bytes "/" ++ signed x) (kept (b_fits found) (ap (λ (l : Length). l.b) is))) over.put_signed.ensures
+    let is = c.length_by-length.ensures in
+    let c_fits : SFits w64 c.length_by-length.result.c = search rules in
+    let a_fits : SFits w64 c.length_by-length.result.a = search rules in
+    let b_fits : SFits w64 c.length_by-length.result.b = search rules in
+    writes_same (ap (λ (x : ℤ). bytes "pre c=" ++ signed x) (kept c_fits (ap (λ (l : Length). l.c) is))) c.put_signed-a.ensures
+    then writes_same (ap (λ (x : ℤ). bytes " len=" ++ signed x) (kept a_fits (ap (λ (l : Length). l.a) is))) c.put_signed-b.ensures
+    then writes_same (ap (λ (x : ℤ). bytes "/" ++ signed x) (kept b_fits (ap (λ (l : Length). l.b) is))) c.put_signed.ensures
