@@ -1,6 +1,5 @@
 -- `inflections` meets its contract: what the pre-image shows, or its refusal.
 use mathlib.Core.Path.{subst}
-use borrow.Author.Rules.{rules}
 use Rattle.curve.specs.declared.Curve.{Curve}
 use Rattle.curve.specs.Curves.{points_of}
 use Rattle.curve.proofs.LegPolynomial.{points_of_length}

@@ -1,6 +1,5 @@
 -- `length` meets its contract: the length by the pre-image, or its refusal.
 use mathlib.Core.Path.{subst}
-use borrow.Author.Rules.{rules}
 use Rattle.curve.specs.declared.Curve.{Curve}
 use Rattle.curve.specs.Curves.{points_of}
 use Rattle.curve.proofs.LegPolynomial.{points_of_length}
