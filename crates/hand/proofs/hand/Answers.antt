@@ -20,10 +20,8 @@ shape_of-area c = search rules
 
 pub returns : goal.returns
 returns c =
-    let k = c in
-    let s = k.args in
-    let vs = s.values.now in
-    let rest = drop (length vs) s.area.now in
-    hands_given vs (omega (arith, k.if-area-n.false)) (shape_of-area c)
-    (fills_rest (length vs) vs rest k.put.new.0 c.clear.new.0 refl k.put.ensures c.clear.ensures)
-    (to_z_pos w64 (length vs) (omega (arith, k.before.before.before.well-formed)))
+    let vs = c.args.values.now in
+    let rest = drop (length vs) c.args.area.now in
+    hands_given vs (omega (arith, c.if-area-n.false)) (shape_of-area c)
+    (fills_rest (length vs) vs rest c.put.new.area c.clear.new.area refl c.put.ensures c.clear.ensures)
+    (to_z_pos w64 (length vs) (omega (arith, c.well_formed)))

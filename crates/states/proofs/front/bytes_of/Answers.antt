@@ -18,7 +18,7 @@ loop-i-preserved c =
     let words = turn.args.words.now in
     let put = c.put_long in (
       unpacked-more (replicate 56 0) words turn.loop-i.i (omega (arith, turn.requires)) (omega (arith, turn.requires, c.loop-i-test.true)) turn.loop-i.invariant.0 put.ensures,
-      put.auto.0 ∙ turn.loop-i.invariant.1,
+      put.auto.bytes ∙ turn.loop-i.invariant.1,
       omega (arith, c.loop-i-test.true),
     )
 

@@ -22,8 +22,8 @@ returns c =
     let part = s.args.part.now in
     subst
     (λ (r : List ℕ).
-    fill.fill.new.0 ≡ take (length (take (52 - held) (drop held r))) part ++ drop (length part) (take (52 - held) (drop held r))
-    → take held r ++ (fill.fill.new.0 ++ drop (52 - held) (drop held r)) ≡ padded (joined_to (take held (unpacked s.args.words.now)) held part))
+    fill.fill.new.area ≡ take (length (take (52 - held) (drop held r))) part ++ drop (length part) (take (52 - held) (drop held r))
+    → take held r ++ (fill.fill.new.area ++ drop (52 - held) (drop held r)) ≡ padded (joined_to (take held (unpacked s.args.words.now)) held part))
     (sym bytes.bytes_of-front.ensures)
     (joined-padded s.args.words.now part held s.requires.0 s.requires.1)
     fill.fill.ensures
