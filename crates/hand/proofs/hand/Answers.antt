@@ -11,9 +11,7 @@ use Rattle.hand.proofs.hand.Goals as goal
 
 pub returns-then-area-n : goal.returns-then-area-n
 returns-then-area-n c =
-    let refused = c in
-    let tested = refused in
-    hands_short tested.args.values.now tested.if-area-n.true (hands_same refl refused.refused.type_inv refused.refused.ensures)
+    hands_short c.args.values.now c.if-area-n.true (hands_same refl c.refused.type_inv c.refused.ensures)
 
 pub shape_of-area : goal.shape_of-area
 shape_of-area c = search rules

@@ -27,11 +27,9 @@ use Rattle.states.proofs.going.onward.Goals as goal
 
 pub joined-front-requires : goal.joined-front-requires
 joined-front-requires c =
-    let l = c in
-    let s = l in
-    let words = s.args.state.words in (
-      subst (λ (n : ℕ). words ≡ packed (take n (unpacked words))) (sym l.least-held.ensures) s.requires.0.front.words_are,
-      omega (arith, l.least-held.ensures),
+    let words = c.args.state.words in (
+      subst (λ (n : ℕ). words ≡ packed (take n (unpacked words))) (sym c.least-held.ensures) c.requires.0.front.words_are,
+      omega (arith, c.least-held.ensures),
     )
 
 -- what the walk is given: the bytes of the state and of the part
