@@ -25,37 +25,30 @@ words_for() { # TARGET
     esac
 }
 
-# A command of ./yard, in which the toolchain keeps the module of the crate that it builds.
-keeping() { # CRATE COMMAND...
-    kit=$("$home/gate/kit" "$1")
-    shift
-    (export RATTLE_HOME="$kit" && "$@")
-}
-
-# The module that was kept of a crate, compiled for a target as the toolchain compiles it for x86-64. What the compiler says is of use where it
+# The module that was kept of the library, compiled for a target as the toolchain compiles it for x86-64. What the compiler says is of use where it
 # fails: it also says that it does not know the processor x86-64, which the module names.
-compile_kept() { # CRATE TARGET OBJECT
-    find_tools
-    "$tools/bin/clang" --target="$2" $(words_for "$2") -O3 -ffunction-sections -fdata-sections -mllvm -trap-unreachable \
-        -mllvm -no-trap-after-noreturn --no-default-config -Wno-override-module -c -x ir "$home/target/kept/$1.bc" -o "$3" \
+compile_kept() { # TARGET OBJECT
+    "$(dirname "$(rt doc)")/toolchain/bin/clang" --target="$1" $(words_for "$1") -O3 -ffunction-sections -fdata-sections -mllvm -trap-unreachable \
+        -mllvm -no-trap-after-noreturn --no-default-config -Wno-override-module -c -x ir "$home/target/kept/yard.bc" -o "$2" \
         2>"$room/said" || { cat "$room/said" >&2 && exit 3; }
 }
 
-# The check proves what the library stands on several crates at a time, and `rt staticlib` would prove it one by one. The library's own
-# crate holds nothing but the exported functions, since building the archive proves it once more.
+# The archive is built once by the toolchain, which proves all that it stands on, and once more where the compiler keeps its module. The library's own
+# crate holds nothing but the exported functions, since each archive proves it anew.
 prove_library() {
-    toolchain "$(stands_on yard | tail -n +2 | wc -l)" check $(sed -n 's/^yard: *//p' "$home/crates.txt")
-    keeping yard toolchain 1 staticlib yard
+    rm -f "$home/crates/yard/out/libyard.a" "$home/target/kept/yard.bc"
+    toolchain yard libyard.a lib
+    "$home/gate/keep" yard >"$room/said" 2>&1 && [ -s "$home/target/kept/yard.bc" ] || { cat "$room/said" >&2 && exit 3; }
 }
 
 # The library that was proved, for a target: the toolchain's own archive, which is for x86-64, or its module compiled.
 make_library() { # TARGET ARCHIVE
     rm -f "$2"
     if [ "$1" = x86_64-linux-gnu ]; then
-        cp "$home/target/staticlib/libyard.a" "$2"
+        cp "$home/crates/yard/out/libyard.a" "$2"
     else
-        compile_kept yard "$1" "$room/yard.o"
-        "$tools/bin/llvm-ar" rcs "$2" "$room/yard.o"
+        compile_kept "$1" "$room/yard.o"
+        "$(dirname "$(rt doc)")/toolchain/bin/llvm-ar" rcs "$2" "$room/yard.o"
     fi
 }
 
@@ -67,21 +60,10 @@ install_library() { # FOLDER TARGET
     cp "$home/include/yard.pc" "$1/lib/pkgconfig/yard.pc"
 }
 
-c_compiler() { # PROCESSOR
-    others=
-    [ "$1" != "$(uname -m)" ] || others="gcc cc"
-    for name in "$1-linux-gnu-gcc" $others; do
-        ! command -v "$name" || return 0
-    done
-    echo "yard: no C compiler for $1; Debian's package is gcc, and for x86-64 elsewhere gcc-x86-64-linux-gnu and libc6-dev-amd64-cross" >&2
-    exit 127
-}
-
-# A program in C with the library for a processor, in the room. It is linked statically, so that it runs by itself or under the emulator alone.
-build_c() { # FILE PROCESSOR
-    compiler=$(c_compiler "$2")
-    make_library "$2-linux-gnu" "$room/libyard.a"
-    "$compiler" -std=c99 -O2 -Wall -Wextra -static -I"$home/include" -o "$room/$(basename "$1" .c)" "$home/$1" "$room/libyard.a"
+# A program in C with the library for this processor, in the room.
+build_c() { # FILE
+    make_library "$(own_target)" "$room/libyard.a"
+    gcc -std=c99 -O2 -Wall -Wextra -static -I"$home/include" -o "$room/$(basename "$1" .c)" "$home/$1" "$room/libyard.a"
 }
 
 second_program() {
@@ -90,29 +72,20 @@ second_program() {
 }
 
 against_library() {
-    "$second" compare "$1" "$2" ${under:+"$under"} "$room/library" $3
+    "$second" compare "$1" "$2" "$room/library" $3
 }
 
 # So many calls by this seed without a difference; then a planted fault, which must be found at its call.
-compare_library() { # PROCESSOR COUNT SEED
-    build_c compare/library.c "$1"
-    find_tools
-    under=
-    [ "$1" = "$(uname -m)" ] || under=$emulator
-    echo "comparing $2 calls on $1, seed $3"
-    against_library "$2" "$3" ""
-    planted=$(($2 / 10 + 1))
+compare_library() { # COUNT SEED
+    build_c compare/library.c
+    echo "comparing $1 calls on $(uname -m), seed $2"
+    against_library "$1" "$2" ""
+    planted=$(($1 / 10 + 1))
     status=0
-    against_library "$2" "$3" "plant $planted" >"$room/difference" || status=$?
+    against_library "$1" "$2" "plant $planted" >"$room/difference" || status=$?
     if [ "$status" -ne 1 ] || ! grep -q "^call $planted differs: " "$room/difference"; then
         echo "yard: the fault planted in call $planted was not found" >&2
         exit 1
     fi
     echo "the fault planted in call $planted was found"
-}
-
-# The library for this processor; elsewhere than on x86-64 then the toolchain's own archive too, under its emulator, with a twentieth of the calls.
-compare_libraries() { # COUNT SEED
-    compare_library "$(uname -m)" "$1" "$2"
-    [ "$(uname -m)" = x86_64 ] || compare_library x86_64 $((($1 + 19) / 20)) "$2"
 }

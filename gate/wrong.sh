@@ -15,7 +15,7 @@ wrong_table() {
     wrong_programs >"$room/wrong"
     echo '| what | wrong programs |'
     echo '|---|---|'
-    sed -n 's/^\([a-z_]*\):.*/\1/p' crates.txt | while read -r crate; do
+    sed -n 's/^\([a-z_]*\)\( staticlib\)\{0,1\}:.*/\1/p' crates.txt | while read -r crate; do
         grep -E "^$crate(::| )" "$room/wrong" | sort
     done | awk '
         $1 != last { if (NR > 1) print row " |"; row = "| `" $1 "` | `" $2 "`"; last = $1; next }

@@ -5,9 +5,11 @@ ghost use Rattle.std.specs.Prelude.{◌≤◌, ◌<◌, length, take};
 ghost use Rattle.record.specs.Records.{longest};
 ghost use Rattle.report_text.specs.Promise.{Report};
 
-use libc::{STDIN_FILENO, STDOUT_FILENO};
 use record::LONGEST;
 use report_text::write_report;
+use std::io;
+use std::io::{Read, Write};
+use streams::read_full;
 use text::TextAnswer;
 
 // The report of a sheet. No report is longer than 5,335 bytes.
@@ -22,16 +24,21 @@ fn report_of(sheet: &[u8], text: &mut [u8]) -> usize
 }
 
 // A sheet that is too long shows by its first byte too many, so there is room for that byte.
-fn report_input(sheet: &mut [u8], text: &mut [u8])
+fn report_input<R: Read, W: Write>(
+    input: &mut R,
+    output: &mut W,
+    sheet: &mut [u8],
+    text: &mut [u8],
+) -> io::Result<()>
     requires { (longest < length sheet.old) × (5335 ≤ length text.old) }
 {
-    let read = io::read_full(STDIN_FILENO, sheet);
+    let read = read_full(input, sheet)?;
     let end = report_of(&sheet[..read], text);
-    io::write_all(STDOUT_FILENO, &text[..end]);
+    output.write_all(&text[..end])
 }
 
-fn main() {
+fn main(rt: HostRuntime) -> io::Result<()> {
     let mut sheet = [0u8; LONGEST + 1];
     let mut text = [0u8; 5335];
-    report_input(&mut sheet, &mut text);
+    report_input(&mut rt.stdin(), &mut rt.stdout(), &mut sheet, &mut text)
 }

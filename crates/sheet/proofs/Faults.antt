@@ -168,7 +168,7 @@ found_number at rest later (step.Record kind) h k = k (row_of kind).size
 from-number : (most : ℕ) (first : Bool) (at : ℕ) (rest : List ℕ) → EndsInSix (survey_from most first at rest).ending
 unfolding survey_from
 from-number zero first at rest = tt
-from-number (suc most) first at rest = found_number at rest _ (step_of first rest) (step-number first rest) (λ n. from-number most false (at + n) (drop n rest))
+from-number (suc most) first at rest = found_number at rest (λ (n : ℕ). survey_from most false (at + n) (drop n rest)) (step_of first rest) (step-number first rest) (λ n. from-number most false (at + n) (drop n rest))
 
 survey-number : (s : List ℕ) → EndsInSix (survey s).ending
 unfolding survey_of

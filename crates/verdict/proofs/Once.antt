@@ -143,20 +143,25 @@ verdict_once D verdict.Still verdict.Still h k = refl
 verdict_once D verdict.Still verdict.No h k = absurd (k.0 h)
 verdict_once D verdict.Still (verdict.Ph s) h k = absurd (k.0 h)
 verdict_once D verdict.Still (verdict.Pre p) h k = absurd (k.0 h)
+verdict_once D verdict.Still (verdict.Refused _) h k = elim k [ ]
 verdict_once D verdict.No verdict.Still h k = absurd (h.0 k)
 verdict_once D verdict.No verdict.No h k = refl
 verdict_once D verdict.No (verdict.Ph s) h k = absurd (h.1 s.c (quartic s.q) k.1.positive k.1.squared)
 verdict_once D verdict.No (verdict.Pre p) h k =
     absurd (h.1 p.square.c (quartic p.square.q) k.1.square_of.positive k.1.square_of.squared)
+verdict_once D verdict.No (verdict.Refused _) h k = elim k [ ]
 verdict_once D (verdict.Ph s) verdict.Still h k = absurd (h.0 k)
 verdict_once D (verdict.Ph s) verdict.No h k = absurd (k.1 s.c (quartic s.q) h.1.positive h.1.squared)
 verdict_once D (verdict.Ph s) (verdict.Ph t) h k = ap verdict.Ph (square_once D s t h.1 k.1)
 verdict_once D (verdict.Ph s) (verdict.Pre p) h k = absurd (h.2 p.kappa (quadratic p.w) k.1.generated)
+verdict_once D (verdict.Ph s) (verdict.Refused _) h k = elim k [ ]
 verdict_once D (verdict.Pre p) verdict.Still h k = absurd (h.0 k)
 verdict_once D (verdict.Pre p) verdict.No h k =
     absurd (k.1 p.square.c (quartic p.square.q) h.1.square_of.positive h.1.square_of.squared)
 verdict_once D (verdict.Pre p) (verdict.Ph s) h k = absurd (k.2 p.kappa (quadratic p.w) h.1.generated)
 verdict_once D (verdict.Pre p) (verdict.Pre p') h k = ap verdict.Pre (preimage_once D p p' h.1 k.1)
+verdict_once D (verdict.Pre p) (verdict.Refused _) h k = elim k [ ]
+verdict_once D (verdict.Refused _) _ h k = elim h [ ]
 
 -- ---- promises
 -- a verdict, from what it answers

@@ -1,6 +1,5 @@
 -- `divisor::kept` meets its contract: a root makes the candidate one.
 use mathlib.Core.Path.{sym, ◌∙◌}
-use borrow.Author.Rules.{rules}
 use Rattle.whole.proofs.Flags.{told, untold}
 use Rattle.divisor.proofs.Halves.{candidate-kept}
 use Rattle.divisor.proofs.kept.Goals as goal

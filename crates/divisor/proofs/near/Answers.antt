@@ -9,7 +9,6 @@ use mir.Syntax.{w64}
 use mir.Val.{SFits, to_z, of_z}
 use mir.ValLaws.{to_z-of_z}
 use Rattle.whole.proofs.Linear.{linear, abs_parts, one-part}
-use Rattle.pair.specs.Pairs.{norm}
 use Rattle.pair.proofs.Laws.{norm_some}
 use Rattle.divisor.proofs.Division.{over-within}
 use Rattle.divisor.proofs.Rounding.{nearest-near, rounded-near}

@@ -8,7 +8,7 @@ use mir.Val.{SFits, to_z, of_z}
 use mir.ValLaws.{to_z-of_z}
 use Rattle.whole.specs.Promise.{Nearest}
 use Rattle.pair.specs.declared.Pair.{Pair}
-use Rattle.pair.specs.Pairs.{times, conjugate, norm}
+use Rattle.pair.specs.Pairs.{times, conjugate}
 use Rattle.pair.proofs.Parts.{wider}
 use Rattle.pair.proofs.Laws.{norm_some}
 use Rattle.divisor.proofs.nearest.Goals as goal

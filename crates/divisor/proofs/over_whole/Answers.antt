@@ -1,5 +1,5 @@
 -- `divisor::over_whole` meets its contract, part by part.
-use mathlib.Core.Path.{◌≡◌, sym, subst}
+use mathlib.Core.Path.{sym, subst}
 use mathlib.Core.Logic.{inl, inr}
 use borrow.Author.Rules.{rules}
 use lib.IntN.{ℤ, pos}

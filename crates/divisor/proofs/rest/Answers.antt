@@ -1,7 +1,6 @@
 -- `divisor::rest` meets its contract.
 use mathlib.Core.Path.{sym, ap, ◌∙◌}
 use Prim.Native.Nat.{◌^◌}
-use borrow.Author.Rules.{rules}
 use lib.Dec.{lit≤}
 use Rattle.pair.specs.Pairs.{minus, PartsWithin}
 use Rattle.pair.proofs.Parts.{wider, times-within}

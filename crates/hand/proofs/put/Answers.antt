@@ -20,7 +20,7 @@ loop-i-preserved c =
     let l = c.loop-i in
     let s = c.args in
     let v = get_or s.values.now l.i (pos 0) in
-    let stored = to_z-of_z w64 v (record { sfits = c.area-1.given }) in (
+    let stored = to_z-of_z w64 v (record { sfits = omega arith }) in (
       omega arith,
       ap (set l.area l.i) stored ∙ ap (λ (xs : List ℤ). set xs l.i v) l.invariant.1
           ∙ put-more (pos 0) l.i s.values.now s.area.now (omega arith) (omega arith),

@@ -14,5 +14,4 @@ returns-then-state-lt-NUMBERS c = inl (omega (arith, c.if-state-lt-NUMBERS.true)
 
 pub returns : goal.returns
 returns c =
-    let begun = c in
-    inr (omega (arith, begun.if-state-lt-NUMBERS.false), (begun.start.result, begun.start.ensures, refl, c.put_state.ensures))
+    inr (omega (arith, c.if-state-lt-NUMBERS.false), (c.start.result, c.start.ensures, refl, c.put_state.ensures))

@@ -2,61 +2,50 @@
 use borrow.Author.Rules.{rules}
 use mathlib.Core.Path.{◌≡◌, subst}
 use mathlib.Core.List.{List}
-use Prim.Native.Nat.{ℕ}
+use Prim.Native.Nat.{ℕ, ◌-◌}
 use native.Mathlib.Omega.{arith}
-use lib.ListN.{drop}
+use lib.ListN.{length, take, drop}
 use Rattle.record.specs.declared.points.Held.{Held}
 use Rattle.record.specs.Promise.{IsHeld}
+use Rattle.sheet.specs.declared.Location.{Location}
 use Rattle.sheet.specs.declared.Location.TheVariants as location
 use Rattle.sheet.specs.Promise.{Locates}
 use Rattle.sheet.proofs.Passed.{rest-is}
 use Rattle.sheet.proofs.Places.{Stands, fits, held-curve, held-nothing}
 use Rattle.sheet.proofs.Told.{located, located_read, refused-read}
 use Rattle.sheet.proofs.read.Goals as goal
-use Rattle.sheet.proofs.read.Lts as at
-use Rattle.sheet.proofs.read.Reads as reads
-use Rattle.sheet.proofs.read.Tie as tie
 
--- where the record stands
-module _ (c : goal.In-At) where
-  abbrev start : at.Start tie.the-claims reads.Pre reads.Post
-  start = let located = c.before.before.before in located.before.before
+-- where the record stands, and what the bytes there hold
+module _ (s : List ℕ) (expected number : ℕ) {place long : ℕ} {r : Location} (h : Locates s expected number r) (e : r ≡ location.At place long) where
+  locates : Locates s expected number (location.At place long)
+  locates = subst (Locates s expected number) e h
 
-  abbrev place : ℕ
-  place = c.in-At.place
-
-  abbrev long : ℕ
-  long = c.in-At.length
-
-  locates : Locates start.args.sheet.now start.args.mission start.args.number (location.At place long)
-  locates = subst (Locates start.args.sheet.now start.args.mission start.args.number) c.in-At.is c.locate.ensures
-
-  here : Stands start.args.sheet.now start.args.number place long
+  here : Stands s number place long
   here = (located _ _ _ _ _ locates).here
 
-pub slice_bounds-held_curve-count : goal.slice_bounds-held_curve-count
-slice_bounds-held_curve-count c = omega (arith, fits (here c))
+  held_there : {x y : Held} → IsHeld (take (length s - place) (drop place s)) x → x ≡ y → IsHeld (drop place s) y
+  held_there {x} g q = subst (λ (y : Held). IsHeld (drop place s) y) q (subst (λ (rest : List ℕ). IsHeld rest x) (rest-is s place) g)
 
--- what the bytes there hold
-held_there : (c : at.After-held_curve tie.the-claims reads.Pre reads.Post) {x : Held} → c.held_curve.result ≡ x → let at = c.before.before in IsHeld (drop (place at) (start at).args.sheet.now) x
-held_there c {x} e =
-    let at = c.before.before in
-    subst (λ (h : Held). IsHeld (drop (place at) (start at).args.sheet.now) h) e
-    (subst (λ (rest : List ℕ). IsHeld rest c.held_curve.result) (rest-is (start at).args.sheet.now (place at)) c.held_curve.ensures)
+pub slice_bounds-held_curve-count : goal.slice_bounds-held_curve-count
+slice_bounds-held_curve-count c = omega (arith, fits (here c.args.sheet.now c.args.mission c.args.number c.locate.ensures c.in-At.is))
+
+pub slice_bounds-held_curve-start : goal.slice_bounds-held_curve-start
+slice_bounds-held_curve-start c = omega (arith, fits (here c.args.sheet.now c.args.mission c.args.number c.locate.ensures c.in-At.is))
 
 pub returns-in-Curve : goal.returns-in-Curve
 returns-in-Curve c =
-    let held = c.before.before.before in
-    let at = held.before.before in
-    located_read _ _ _ _ _ (locates at) c.in-Curve.curve (held-curve (here at) c.in-Curve.curve _ (held_there held c.in-Curve.is)).0
+    let s = c.args.sheet.now in
+    let m = c.args.mission in
+    let n = c.args.number in
+    located_read _ _ _ _ _ (locates s m n c.locate.ensures c.in-At.is) c.in-Curve.curve
+    (held-curve (here s m n c.locate.ensures c.in-At.is) c.in-Curve.curve _ (held_there s m n c.locate.ensures c.in-At.is c.held_curve.ensures c.in-Curve.is)).0
 
 pub returns-in-None : goal.returns-in-None
 returns-in-None c =
-    let held = c.before.before.before in
-    absurd (held-nothing (here held.before.before) (held_there held c.in-None.is))
+    let s = c.args.sheet.now in
+    let m = c.args.mission in
+    let n = c.args.number in
+    absurd (held-nothing (here s m n c.locate.ensures c.in-At.is) (held_there s m n c.locate.ensures c.in-At.is c.held_curve.ensures c.in-None.is))
 
 pub returns-in-Refused : goal.returns-in-Refused
-returns-in-Refused c =
-    let located = c in
-    let start = located in
-    refused-read _ _ _ (subst (Locates start.args.sheet.now start.args.mission start.args.number) c.in-Refused.is located.locate.ensures)
+returns-in-Refused c = refused-read _ _ _ (subst (Locates c.args.sheet.now c.args.mission c.args.number) c.in-Refused.is c.locate.ensures)

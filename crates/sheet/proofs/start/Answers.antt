@@ -1,7 +1,7 @@
 -- `start` meets its contract: every byte is erased, and the header written over the first ones.
 use borrow.Author.Rules.{rules}
 use mathlib.Core.Path.{◌≡◌, sym, ap, ◌∙◌}
-use mathlib.Core.List.{◌++◌}
+use mathlib.Core.List.{List, ◌++◌}
 use Prim.Native.Nat.{ℕ, zero, suc, ◌-◌, ◌≤◌}
 use native.Mathlib.Omega.{arith}
 use lib.ListN.{length, drop, replicate, length-replicate}
@@ -12,9 +12,6 @@ use Rattle.record.specs.Kinds.{row_of}
 use Rattle.record.specs.Records.{erased}
 use Rattle.sheet.proofs.Changed.{start-long, start_narrow, start_done}
 use Rattle.sheet.proofs.start.Goals as goal
-use Rattle.sheet.proofs.start.Lts as at
-use Rattle.sheet.proofs.start.Reads as reads
-use Rattle.sheet.proofs.start.Tie as tie
 
 drop-erased : (k n : ℕ) → drop k (replicate n erased) ≡ replicate (n - k) erased
 drop-erased zero n = let z : n ≡ n - 0 = omega arith in ap (λ (m : ℕ). replicate m erased) z
@@ -25,35 +22,28 @@ pub returns-then-sheet-gt-LONGEST : goal.returns-then-sheet-gt-LONGEST
 returns-then-sheet-gt-LONGEST c = start-long _ _ c.if-sheet-gt-LONGEST.true c.nowhere.ensures
 
 -- how long a header is
-size_is : (c : at.After-row_of tie.the-claims reads.Pre reads.Post) → c.row_of-size.result.size ≡ (row_of Header).size
-size_is c = ap (λ (r : Row). r.size) c.row_of-size.ensures
+size_is : {row : Row} → row ≡ row_of Header → row.size ≡ (row_of Header).size
+size_is e = ap (λ (r : Row). r.size) e
 
 pub returns-then-sheet-size : goal.returns-then-sheet-size
 returns-then-sheet-size c =
-    let tested = c in
-    start_narrow _ _ tested.if-sheet-gt-LONGEST.false (omega (arith, tested.if-sheet-size.true, size_is tested.before)) c.nowhere-then-sheet-size.ensures
+    start_narrow _ _ c.if-sheet-gt-LONGEST.false (omega (arith, c.if-sheet-size.true, size_is c.row_of-size.ensures)) c.nowhere-then-sheet-size.ensures
 
 -- the header fits into what was erased
-fits_now : (c : at.After-erase_all tie.the-claims reads.Pre reads.Post) → c.row_of-size.result.size ≤ length c.erase_all.new.0
-fits_now c =
-    omega (arith, c.if-sheet-size.false, ap length c.erase_all.ensures, length-replicate {A = ℕ} (length c.args.sheet.now) erased)
+fits_now : {s : List ℕ} (t : List ℕ) {n : ℕ} → s ≡ replicate (length t) erased → n ≤ length t → n ≤ length s
+fits_now t e l = omega (arith, l, ap length e, length-replicate {A = ℕ} (length t) erased)
 
 pub slice_bounds-put_header-end-2 : goal.slice_bounds-put_header-end-2
-slice_bounds-put_header-end-2 c = let erased = c.before.before.before in sym (length-take-le _ _ (fits_now erased))
+slice_bounds-put_header-end-2 c = sym (length-take-le _ _ (fits_now c.args.sheet.now c.erase_all.ensures c.if-sheet-size.false))
 
 pub put_header-requires : goal.put_header-requires
-put_header-requires c = let erased = c.before.before.before in length-take-le _ _ (fits_now erased) ∙ size_is erased.before.before.before
+put_header-requires c = length-take-le _ _ (fits_now c.args.sheet.now c.erase_all.ensures c.if-sheet-size.false) ∙ size_is c.row_of-size.ensures
 
 pub returns : goal.returns
 returns c =
-    let put = c in
-    let erased-all = put.before.before.before.before in
-    let tested = erased-all.before.before in
-    let row = tested.before in
-    let start = row in
-    let n = length start.args.sheet.now in
-    let behind : drop row.row_of-size.result.size erased-all.erase_all.new.0 ≡ replicate (n - (row_of Header).size) erased =
-    (λ i. drop (size_is row i) (erased-all.erase_all.ensures i)) ∙ drop-erased (row_of Header).size n
+    let n = length c.args.sheet.now in
+    let behind : drop c.row_of-size.result.size c.erase_all.new.bytes ≡ replicate (n - (row_of Header).size) erased =
+    (λ i. drop (size_is c.row_of-size.ensures i) (c.erase_all.ensures i)) ∙ drop-erased (row_of Header).size n
     in
-    start_done _ _ row.if-sheet-gt-LONGEST.false (omega (arith, tested.if-sheet-size.false, size_is row))
-    ((λ i. put.put_header.ensures i ++ behind i))
+    start_done _ _ c.if-sheet-gt-LONGEST.false (omega (arith, c.if-sheet-size.false, size_is c.row_of-size.ensures))
+    ((λ i. c.put_header.ensures i ++ behind i))

@@ -1,7 +1,6 @@
 -- `decide` meets its contract: by the first leg, by stillness, by a generator, or by what is left.
 use mathlib.Core.Path.{sym, subst}
 use mathlib.Core.List.{List, []}
-use borrow.Author.Rules.{rules}
 use Rattle.whole.specs.Number.{Tells}
 use Rattle.poly.specs.Polynomials.{Same, scaled, square}
 use Rattle.whole.proofs.Flags.{untold}
@@ -33,14 +32,12 @@ first_end-requires c = legs_small (ds c) c.requires
 
 pub returns-then-not-first_end : goal.returns-then-not-first_end
 returns-then-not-first_end c =
-    let s = c.before.before in
-    let none = first-refused s.args.legs (untold c.first_end.result c.first_end.ensures c.if-not-first_end.true-raw) in
-    (not-squared_moves (D s) none, none)
+    let none = first-refused c.args.legs (untold c.first_end.result c.first_end.ensures c.if-not-first_end.true-raw) in
+    (not-squared_moves (D c.before.before) none, none)
 
 pub returns-then-is_still : goal.returns-then-is_still
 returns-then-is_still c =
-    let s = c.before.before.before.before in
-    (power_form-zero (ds s)).1 (subst (Tells (Same pairs (ds s) [])) c.if-is_still.true c.is_still.ensures)
+    (power_form-zero (ds c.before.before.before.before)).1 (subst (Tells (Same pairs (ds c.before.before.before.before) [])) c.if-is_still.true c.is_still.ensures)
 
 -- ---- a curve that moves
 module _ (c : goal.Else-is_still) where
@@ -58,9 +55,8 @@ generator_of-requires c = legs_small (ds (o c)) (o c).requires
 
 pub unmade-requires : goal.unmade-requires
 unmade-requires c =
-    let t = c in
-    let s = o t.before in
-    (s.requires, subst (IsGeneration (D s)) c.in_default.is t.generator_of.ensures)
+    let s = o c.before.before in
+    (s.requires, subst (IsGeneration (D s)) c.in_default.is c.generator_of.ensures)
 
 pub returns-in_default : goal.returns-in_default
 returns-in_default c = c.unmade.ensures
@@ -68,7 +64,7 @@ returns-in_default c = c.unmade.ensures
 -- ---- with a generator
 module _ (c : goal.After-w-1) where
   abbrev t : at.After-generator_of tie.the-claims reads.Pre reads.Post
-  t = c.before.before.before.before.before
+  t = c.before.before.before
 
   abbrev e : goal.Else-is_still
   e = t.before

@@ -2,7 +2,6 @@
 use mathlib.Core.Path.{refl, subst}
 use mathlib.Core.List.{List}
 use mathlib.Core.Logic.{inl}
-use borrow.Author.Rules.{rules}
 use Rattle.whole.proofs.Flags.{told, untold}
 use Rattle.pair.specs.declared.Pair.{Pair}
 use Rattle.bernstein.specs.Powers.{power_form}
@@ -24,7 +23,7 @@ module _ (c : goal.After-legs_of) where
   ps = points_of c.args.curve
 
   ranged : InRange ps
-  ranged = legs_of-requires c.before tt
+  ranged = legs_of-requires c.before
 
 pub decide-requires : goal.decide-requires
 decide-requires c = record { points = ps c; range = ranged c; short = points_of_length c.args.curve; legs = c.legs_of.ensures }
@@ -32,5 +31,4 @@ decide-requires c = record { points = ps c; range = ranged c; short = points_of_
 pub returns : goal.returns
 unfolding leg_polynomial
 returns c =
-    let t = c.before in
-    recognised_by (ps t) (ranged t) c.decide.result (subst (λ (l : List Pair). Holds (power_form l) c.decide.result) t.legs_of.ensures c.decide.ensures)
+    recognised_by (ps c.before) (ranged c.before) c.decide.result (subst (λ (l : List Pair). Holds (power_form l) c.decide.result) c.legs_of.ensures c.decide.ensures)

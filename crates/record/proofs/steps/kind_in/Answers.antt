@@ -16,11 +16,9 @@ returns-then-is_named-2 c = rw (sym c.is_named.ensures ∙ c.if-is_named.false, 
 pub returns-then-is_named-3 : goal.returns-then-is_named-3
 unfolding kind_in if◌then◌else◌
 returns-then-is_named-3 c =
-    let first = c in
-    rw (sym first.is_named.ensures ∙ first.if-is_named.false, sym c.is_named-2.ensures ∙ c.if-is_named-2.false, sym c.is_named-3.ensures ∙ c.if-is_named-3.true)
+    rw (sym c.is_named.ensures ∙ c.if-is_named.false, sym c.is_named-2.ensures ∙ c.if-is_named-2.false, sym c.is_named-3.ensures ∙ c.if-is_named-3.true)
 
 pub returns : goal.returns
 unfolding kind_in if◌then◌else◌
 returns c =
-    let first = c in
-    rw (sym first.is_named.ensures ∙ first.if-is_named.false, sym c.is_named-2.ensures ∙ c.if-is_named-2.false, sym c.is_named-3.ensures ∙ c.if-is_named-3.false)
+    rw (sym c.is_named.ensures ∙ c.if-is_named.false, sym c.is_named-2.ensures ∙ c.if-is_named-2.false, sym c.is_named-3.ensures ∙ c.if-is_named-3.false)

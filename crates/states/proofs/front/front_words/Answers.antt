@@ -12,5 +12,4 @@ words_of-requires c = let f = c in padded-long f.args.bytes.now f.fill.ensures
 
 pub returns : goal.returns
 returns c =
-    let f = c in
-    c.words_of.ensures ∙ packed-padded f.args.bytes.now f.fill.ensures
+    c.words_of.ensures ∙ packed-padded c.args.bytes.now c.fill.ensures

@@ -19,5 +19,4 @@ overflow_add-result c = let s = c in omega (arith, c.erased_bytes.ensures, erase
 pub returns : goal.returns
 unfolding if◌then◌else◌
 returns c =
-    let s = c in
-    rw (eq-eqb _ _ c.if-state-left.false) (ap (λ (n : ℕ). behind_in s.args.state + n) c.erased_bytes.ensures)
+    rw (eq-eqb _ _ c.if-state-left.false) (ap (λ (n : ℕ). behind_in c.args.state + n) c.erased_bytes.ensures)

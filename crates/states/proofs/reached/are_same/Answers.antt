@@ -24,5 +24,4 @@ loop-i-preserved c =
 
 pub returns : goal.returns
 returns c =
-    let s = c in
-    ext_get_or 0 s.args.a.now s.args.b.now (s.requires.0 ∙ sym s.requires.1) (λ j m. c.loop-i.invariant j (omega (arith, s.requires.0)))
+    ext_get_or 0 c.args.a.now c.args.b.now (c.requires.0 ∙ sym c.requires.1) (λ j m. c.loop-i.invariant j (omega (arith, c.requires.0)))

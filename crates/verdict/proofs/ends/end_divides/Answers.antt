@@ -22,6 +22,9 @@ use Rattle.pair.proofs.Laws.{norm_nonneg, norm-zero}
 use Rattle.verdict.specs.Rules.{EndDivides}
 use Rattle.verdict.proofs.Rests.{divides_by_rest, square-size}
 use Rattle.verdict.proofs.ends.end_divides.Goals as goal
+use Rattle.verdict.proofs.ends.end_divides.Tie as tie
+use Rattle.verdict.proofs.ends.end_divides.Reads as reads
+use Rattle.verdict.proofs.ends.end_divides.Lts as at
 
 -- nothing is asked of a leg that is 0
 none_divides : (n : ℤ) (e : Pair) → EndDivides n pairs.none e
@@ -43,7 +46,7 @@ norm-requires c = wider (lit≤ tt) c.requires.0
 
 -- ---- the sizes
 module _ (c : goal.After-norm) where
-  abbrev o : goal.Start
+  abbrev o : at.Start tie.the-claims reads.Pre reads.Post
   o = c.before.before.before
 
   norm_small : Within 3200000000 (norm o.args.d)
@@ -91,6 +94,6 @@ returns c =
     let s = c.before in
     let n = (o (t s)).args.n in
     let rest = divides_by_rest (norm (d s)) (x s *ℤ x s *ℤ pos n) in
-    let same : nat_abs (x s *ℤ x s *ℤ pos n) % nat_abs (norm (d s)) ≡ s.size.result * s.size.result * n % nat_abs (to_z w64 (of_z w64 (t s).norm.result))
+    let same : nat_abs (x s *ℤ x s *ℤ pos n) % nat_abs (norm (d s)) ≡ c.size.result * c.size.result * n % nat_abs (to_z w64 (of_z w64 (t s).norm.result))
     = ap₂ ◌%◌ (square-size (x s) n ∙ ap (λ (k : ℕ). k * k * n) (sym (x-is s))) (ap nat_abs (sym (n-is (t s)))) in
     told-map (λ e. rest.0 (same ∙ e)) (λ h. sym same ∙ rest.1 h) c.divides_square.result c.divides_square.ensures

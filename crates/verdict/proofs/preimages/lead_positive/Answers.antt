@@ -2,7 +2,6 @@
 use mathlib.Core.Bool.{Bool, true, false}
 use Prim.Native.Nat.{ℕ, zero, suc}
 use native.Mathlib.Omega.{arith}
-use borrow.Author.Rules.{rules}
 use Rattle.whole.specs.Coefficients.{at}
 use Rattle.whole.specs.Number.{FirstPositive, Tells}
 use Rattle.whole.proofs.Flags.{told, untold}
@@ -14,6 +13,9 @@ use Rattle.verdict.specs.declared.Quadratic.{Quadratic}
 use Rattle.verdict.specs.Verdicts.{quadratic, LeadKept}
 use Rattle.verdict.proofs.Turned.{lead_of_lem}
 use Rattle.verdict.proofs.preimages.lead_positive.Goals as goal
+use Rattle.verdict.proofs.preimages.lead_positive.Tie as tie
+use Rattle.verdict.proofs.preimages.lead_positive.Reads as reads
+use Rattle.verdict.proofs.preimages.lead_positive.Lts as at
 
 -- the flag on the m-th coefficient is the flag on w, where m is the highest power
 carried : (w : Quadratic) (m : ℕ) (flag : Bool) → Top pairs (quadratic w) m → Tells (FirstPositive (at pairs (quadratic w) m).re (at pairs (quadratic w) m).im) flag → Tells (LeadKept (quadratic w)) flag
@@ -29,7 +31,7 @@ constant w false a h = λ l. by l.power l.positive
     by zero p = h p
     by (suc m) p = first_some p (a (suc m) (omega arith))
 
-module _ (c : goal.Else-not-is_zero) where
+module _ (c : at.Else1 tie.the-claims reads.Pre reads.Post) where
   abbrev w : Quadratic
   w = c.args.w
 
@@ -38,22 +40,19 @@ module _ (c : goal.Else-not-is_zero) where
 
 pub returns-then-not-is_zero : goal.returns-then-not-is_zero
 returns-then-not-is_zero c =
-    let t = c in
-    let v = t.args.w in
+    let v = c.args.w in
     carried v 2 c.first_positive.result
     (record { lead = untold c.is_zero.result c.is_zero.ensures c.if-not-is_zero.true-raw; above = length_above pairs (quadratic v) 2 (omega arith) })
     c.first_positive.ensures
 
 pub returns-then-not-is_zero-2 : goal.returns-then-not-is_zero-2
 returns-then-not-is_zero-2 c =
-    let s = c.before.before.before in
-    carried (w s) 1 c.first_positive-then-not-is_zero-2.result
-    (record { lead = untold c.is_zero-2.result c.is_zero-2.ensures c.if-not-is_zero-2.true-raw; above = above-1 s })
+    carried (w c.before.before.before) 1 c.first_positive-then-not-is_zero-2.result
+    (record { lead = untold c.is_zero-2.result c.is_zero-2.ensures c.if-not-is_zero-2.true-raw; above = above-1 c.before.before.before })
     c.first_positive-then-not-is_zero-2.ensures
 
 pub returns : goal.returns
 returns c =
-    let s = c.before.before.before in
-    constant (w s) c.first_positive-2.result
-    (above_lowered pairs (above-1 s) (told c.is_zero-2.result c.is_zero-2.ensures c.if-not-is_zero-2.false-raw))
+    constant (w c.before.before.before) c.first_positive-2.result
+    (above_lowered pairs (above-1 c.before.before.before) (told c.is_zero-2.result c.is_zero-2.ensures c.if-not-is_zero-2.false-raw))
     c.first_positive-2.ensures

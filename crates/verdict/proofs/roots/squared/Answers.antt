@@ -1,14 +1,12 @@
 -- `roots::squared` meets its contract: N is c times what a root is looked for of.
-use mathlib.Core.Path.{◌≡◌, refl, sym, ◌∙◌, subst}
+use mathlib.Core.Path.{◌≡◌, sym, ◌∙◌, subst}
 use mathlib.Core.List.{List}
 use mathlib.Core.Logic.{◌≢◌}
 use Prim.Native.Nat.{ℕ, ◌+◌, ◌≤◌}
-use borrow.Author.Rules.{rules}
 use lib.IntN.{ℤ, pos}
-use lib.Signed.{◌<ℤ◌}
 use mir.Syntax.{w64}
 use mir.Val.{to_z, of_z}
-use Rattle.whole.specs.Coefficients.{at, Greatest}
+use Rattle.whole.specs.Coefficients.{Greatest}
 use Rattle.poly.specs.Polynomials.{Same, scaled}
 use Rattle.whole.specs.Number.{wholes}
 use Rattle.whole.proofs.Bound.{read_back}
@@ -31,12 +29,15 @@ use Rattle.verdict.specs.Steps.{IsHighest, OfCurve}
 use Rattle.verdict.proofs.Squares.{no_root-not-squared, root-square_of}
 use Rattle.verdict.proofs.Known.{of_legs, legs_small, pairs_slight, length-sized, roots_small}
 use Rattle.verdict.proofs.roots.squared.Goals as goal
+use Rattle.verdict.proofs.roots.squared.Tie as tie
+use Rattle.verdict.proofs.roots.squared.Reads as reads
+use Rattle.verdict.proofs.roots.squared.Lts as at
 
 pub drawn-e-requires : goal.drawn-e-requires
 drawn-e-requires c = legs_small (legs_of c.args.legs) c.requires.0
 
 -- ---- D, drawn
-module _ (c : goal.After-drawn-e) where
+module _ (c : at.After-drawn tie.the-claims reads.Pre reads.Post) where
   abbrev o : goal.Start
   o = c.before
 
@@ -57,19 +58,18 @@ module _ (c : goal.After-drawn-e) where
 
 pub returns-in_default : goal.returns-in_default
 returns-in_default c k =
-    let t = c.before.before.before in
-    sym (drawn-is t k) ∙ subst (IsHighest (e t)) c.in_default.is c.degree.ensures k
+    sym (drawn-is c.before.before k) ∙ subst (IsHighest (e c.before.before)) c.in_default.is c.degree.ensures k
 
 pub norm_polynomial-n-requires : goal.norm_polynomial-n-requires
-norm_polynomial-n-requires c = e_small c.before.before.before.before
+norm_polynomial-n-requires c = e_small c.before.before
 
 -- ---- N
 module _ (c : goal.After-norm_polynomial-n) where
   abbrev k : goal.In-Power
   k = c.before
 
-  abbrev t : goal.After-drawn-e
-  t = k.before.before.before.before
+  abbrev t : at.After-drawn tie.the-claims reads.Pre reads.Post
+  t = k.before.before
 
   abbrev l : ℕ
   l = k.in-Power.l
@@ -141,7 +141,7 @@ whole_root-requires c =
 
 pub returns-in_default-whole_root : goal.returns-in_default-whole_root
 returns-in_default-whole_root c =
-    let s = c.before.before.before in
+    let s = c.before.before in
     let u = p (f s) in
     let E = D (t u) in
     let positive = (f s).content-c.ensures.1 in (
@@ -153,7 +153,7 @@ returns-in_default-whole_root c =
 
 pub returns : goal.returns
 returns c =
-    let s = c.before.before.before.before in
+    let s = c.before.before in
     let u = p (f s) in
     let E = D (t u) in
     let q = c.in-Root.q in

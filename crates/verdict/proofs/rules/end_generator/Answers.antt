@@ -1,11 +1,9 @@
 -- `rules::end_generator` meets its contract: D = t² E, and E = κ u² gives D = κ (t u)².
-use mathlib.Core.Path.{◌≡◌, refl, sym, ap, ap₂, ◌∙◌, subst}
+use mathlib.Core.Path.{◌≡◌, refl, subst}
 use mathlib.Core.List.{List, [], ◌∷◌}
 use Prim.Native.Nat.{zero, suc}
-use borrow.Author.Rules.{rules}
 use lib.Dec.{lit≤}
 use lib.IntN.{pos}
-use Rattle.whole.specs.Coefficients.{at}
 use Rattle.poly.specs.Polynomials.{Same}
 use Rattle.whole.proofs.Flags.{told, untold}
 use Rattle.pair.specs.declared.Pair.{Pair}
@@ -14,11 +12,10 @@ use Rattle.pair.proofs.Parts.{wider, multiple-within}
 use Rattle.bernstein.specs.Powers.{power_form}
 use Rattle.verdict.specs.declared.Quadratic.{Quadratic}
 use Rattle.verdict.specs.declared.rules.Generator.{Generator}
-use Rattle.verdict.specs.Rules.{CubicRule}
-use Rattle.verdict.specs.Verdicts.{quadratic, Coprime, NotGenerated}
-use Rattle.verdict.specs.Steps.{Generates, IsLine}
+use Rattle.verdict.specs.Verdicts.{quadratic}
+use Rattle.verdict.specs.Steps.{IsLine}
 use Rattle.verdict.proofs.Known.{generates_same}
-use Rattle.verdict.proofs.RulesMet.{cubic-root, quintic_preimage_end}
+use Rattle.verdict.proofs.RulesMet.{quintic_preimage_end}
 use Rattle.verdict.proofs.Quintics.{quintic_rule_end}
 use Rattle.verdict.proofs.Decided.{cubic-found}
 use Rattle.verdict.proofs.rules.end_generator.Goals as goal
@@ -44,11 +41,11 @@ line_generator-requires c =
 
 -- ---- with what the line says
 module _ (c : at.After-line_generator tie.the-claims reads.Pre reads.Post) where
-  abbrev o : goal.Start
+  abbrev o : at.Start tie.the-claims reads.Pre reads.Post
   o = c.before.before.before.before.before
 
   d1-none : o.args.d1 ≡ pairs.none
-  d1-none = let z = c in told z.is_zero.result z.is_zero.ensures z.if-not-is_zero.false-raw
+  d1-none = told c.is_zero.result c.is_zero.ensures c.if-not-is_zero.false-raw
 
   abbrev E : List Pair
   E = power_form (multiple (pos 6) o.args.d2 ∷ multiple (pos 2) o.args.d3 ∷ o.args.d4 ∷ [])
@@ -58,7 +55,7 @@ module _ (c : at.After-line_generator tie.the-claims reads.Pre reads.Post) where
 
 pub returns-in_default : goal.returns-in_default
 returns-in_default c κ w g =
-    let t = c.before.before in
+    let t = c.before in
     let a = (o t).args in
     let r = (quintic_rule_end pairs.none a.d1 a.d2 a.d3 a.d4 κ w g refl).1 in
     let (k, u, h, p) = cubic-found (multiple (pos 6) a.d2) (multiple (pos 2) a.d3) a.d4 r in
@@ -74,11 +71,10 @@ shifted u z (suc (suc (suc (suc k)))) = refl
 
 pub returns : goal.returns
 returns c =
-    let known = c in
-    let t = known.before.before.before in
+    let t = c.before.before.before.before.before in
     let a = (o t).args in
-    let s : Generator = known.in-Found.s in
-    let h = subst (IsLine (E t)) known.in-Found.is (line t) in
+    let s : Generator = c.in-Found.s in
+    let h = subst (IsLine (E t)) c.in-Found.is (line t) in
     let u = s.w in
     let g = generates_same (power_form (pairs.none ∷ a.d1 ∷ a.d2 ∷ a.d3 ∷ a.d4 ∷ [])) s.k (pairs.none ∷ quadratic u) (pairs.none ∷ u.b0 ∷ u.b1 ∷ []) (shifted u h.1)
     (quintic_preimage_end pairs.none a.d1 a.d2 a.d3 a.d4 s.k (quadratic u) refl (d1-none t) h.0.generated) (λ d i. h.0.coprime d (λ k. i (suc k))) in

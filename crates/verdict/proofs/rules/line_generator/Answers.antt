@@ -1,25 +1,23 @@
 -- `rules::line_generator` meets its contract, by the rule of three Bernstein coefficients.
-use mathlib.Core.Path.{◌≡◌, refl, sym, ap, ◌∙◌, subst}
+use mathlib.Core.Path.{◌≡◌, refl, sym, ◌∙◌, subst}
 use mathlib.Core.List.{List, [], ◌∷◌}
 use mathlib.Core.Logic.{◌≢◌, ⊎_elim}
-use Prim.Native.Nat.{ℕ, zero, suc}
-use borrow.Author.Rules.{rules}
+use Prim.Native.Nat.{zero, suc}
 use lib.Dec.{lit≤}
 use Rattle.whole.specs.Number.{Tells}
-use Rattle.whole.specs.Coefficients.{at, Divides, Greatest}
+use Rattle.whole.specs.Coefficients.{Divides, Greatest}
 use Rattle.poly.specs.Polynomials.{Same, scaled}
 use Rattle.whole.proofs.Divisor.{divides_none}
 use Rattle.whole.proofs.Flags.{told, untold}
 use Rattle.poly.proofs.Lists.{at_scaled}
 use Rattle.pair.specs.declared.Pair.{Pair}
-use Rattle.pair.specs.Pairs.{pairs, minus, times, one, PartsWithin, AllWithin}
+use Rattle.pair.specs.Pairs.{pairs, minus, one, AllWithin}
 use Rattle.pair.proofs.Parts.{wider, zero-within, minus-within}
 use Rattle.pair.proofs.Laws.{pairs_ring, pairs_domain}
 use Rattle.divisor.proofs.Divisors.{greatest_within}
 use Rattle.bernstein.specs.Powers.{power_form}
-use Rattle.verdict.specs.Rules.{CubicRule, line_root, ByDivisor}
-use Rattle.verdict.specs.Verdicts.{quadratic, Coprime, Generated}
-use Rattle.verdict.specs.Steps.{Shared, Over, Generates}
+use Rattle.verdict.specs.Rules.{CubicRule, line_root}
+use Rattle.verdict.specs.Verdicts.{quadratic}
 use Rattle.verdict.proofs.Known.{generates_same}
 use Rattle.verdict.proofs.ByRoot.{root-whole}
 use Rattle.verdict.proofs.RulesMet.{cubic-root, cubic_divisor, first_divisor, cubic_preimage, cubic_preimage_end}
@@ -56,10 +54,10 @@ module _ (c : at.After-equal tie.the-claims reads.Pre reads.Post) where
   rule_is = rw (c.product.ensures, c.product-2.ensures) at c.equal.ensures
 
 pub returns-then-not-equal : goal.returns-then-not-equal
-returns-then-not-equal c = let t = c.before in cubic-not (e0 t) (e1 t) (e2 t) (untold t.equal.result (rule_is t) c.if-not-equal.true-raw)
+returns-then-not-equal c = let t = c.before in cubic-not (e0 t) (e1 t) (e2 t) (untold c.equal.result (rule_is t) c.if-not-equal.true-raw)
 
-rule : (c : goal.Else-not-equal) → CubicRule (e0 c.before) (e1 c.before) (e2 c.before)
-rule c = let t = c.before in told t.equal.result (rule_is t) c.if-not-equal.false-raw
+rule : (c : at.Else1 tie.the-claims reads.Pre reads.Post) → CubicRule (e0 c.before) (e1 c.before) (e2 c.before)
+rule c = told c.equal.result (rule_is c.before) c.if-not-equal.false-raw
 
 -- t as the polynomial of the struct
 shift_same : Same pairs (pairs.none ∷ one ∷ pairs.none ∷ []) (pairs.none ∷ one ∷ [])
@@ -70,21 +68,20 @@ shift_same (suc (suc (suc k))) = refl
 
 pub returns-then-is_zero : goal.returns-then-is_zero
 returns-then-is_zero c =
-    let r = c.before.before in
-    let t = r.before in
+    let t = c.before.before.before in
     let z = subst (Tells (e0 t ≡ pairs.none)) c.if-is_zero.true c.is_zero.ensures in
-    let g = generates_same (E t) (e2 t) (pairs.none ∷ one ∷ []) (pairs.none ∷ one ∷ pairs.none ∷ []) (λ k. sym (shift_same k)) (cubic_preimage_end (e0 t) (e1 t) (e2 t) z (rule r)) end_coprime in
+    let g = generates_same (E t) (e2 t) (pairs.none ∷ one ∷ []) (pairs.none ∷ one ∷ pairs.none ∷ []) (λ k. sym (shift_same k)) (cubic_preimage_end (e0 t) (e1 t) (e2 t) z (rule c.before.before)) end_coprime in
     (record { generated = g.0; coprime = g.1 }, refl)
 
 pub gcd-requires : goal.gcd-requires
-gcd-requires c = let t = c.before.before.before in (wider (lit≤ tt) (o t).requires.0, wider (lit≤ tt) (o t).requires.1)
+gcd-requires c = (wider (lit≤ tt) (o c.before.before.before).requires.0, wider (lit≤ tt) (o c.before.before.before).requires.1)
 
 pub difference-requires : goal.difference-requires
-difference-requires c = let t = c.before.before.before.before in (wider (lit≤ tt) (o t).requires.1, wider (lit≤ tt) (o t).requires.0)
+difference-requires c = (wider (lit≤ tt) (o c.before.before.before.before).requires.1, wider (lit≤ tt) (o c.before.before.before.before).requires.0)
 
 -- ---- with a first coefficient that is not 0
 module _ (c : goal.After-difference) where
-  abbrev r : goal.Else-not-equal
+  abbrev r : at.Else1 tie.the-claims reads.Pre reads.Post
   r = c.before.before.before.before
 
   abbrev t : at.After-equal tie.the-claims reads.Pre reads.Post

@@ -1,23 +1,23 @@
 -- `rules::middle_of` meets its contract: m = 3 d2 − x, where d0 x = 2 d1².
-use mathlib.Core.Path.{◌≡◌, sym, ap, ap₂, ◌∙◌, subst}
+use mathlib.Core.Path.{◌≡◌, sym, ap, ◌∙◌, subst}
 use mathlib.Core.List.{[], ◌∷◌}
-use borrow.Author.Rules.{rules}
 use lib.Dec.{lit≤}
 use lib.IntN.{pos}
-use Rattle.whole.specs.Coefficients.{Divides}
 use Rattle.whole.proofs.Flags.{told, untold}
 use Rattle.poly.proofs.Domain.{times_cancel}
 use Rattle.pair.specs.declared.Pair.{Pair}
-use Rattle.pair.specs.Pairs.{pairs, plus, minus, times, multiple, PartsWithin}
-use Rattle.pair.proofs.Parts.{wider, minus-within, multiple-within, times-within}
+use Rattle.pair.specs.Pairs.{plus, minus, times, multiple, PartsWithin}
+use Rattle.pair.proofs.Parts.{wider, multiple-within, times-within}
 use Rattle.pair.proofs.Laws.{pairs_ring, pairs_domain}
 use Rattle.pair.proofs.PairSolver.{the, ◌⊞◌, ◌⊟◌, ◌⊠◌, ◌··◌, solve_pairs}
 use Rattle.divisor.specs.Promise.{IsPairQuotient}
 use Rattle.divisor.proofs.Division.{quotient-within}
-use Rattle.verdict.specs.Rules.{QuinticRule}
 use Rattle.verdict.proofs.Decided.{middle_within}
 use Rattle.verdict.specs.Steps.{middle_size}
 use Rattle.verdict.proofs.rules.middle_of.Goals as goal
+use Rattle.verdict.proofs.rules.middle_of.Tie as tie
+use Rattle.verdict.proofs.rules.middle_of.Reads as reads
+use Rattle.verdict.proofs.rules.middle_of.Lts as at
 
 pub product-square-requires : goal.product-square-requires
 product-square-requires c = (wider (lit≤ tt) c.requires.1, wider (lit≤ tt) c.requires.1)
@@ -62,14 +62,14 @@ rest_of d0 d1 d2 m e =
 
 pub returns-in_default : goal.returns-in_default
 returns-in_default c d3 d4 m h r =
-    let t = c.before.before.before in
-    subst (IsPairQuotient t.sum.result (d0 t)) c.in_default.is c.quotient.ensures
+    let t = c.before.before in
+    subst (IsPairQuotient c.sum.result (d0 t)) c.in_default.is c.quotient.ensures
     (record { factor = minus (multiple (pos 3) (d2 t)) m; is = rest_of (d0 t) (d1 t) (d2 t) m r.second ∙ sym (dividend-is t) })
 
 -- ---- with the quotient
 module _ (c : goal.In-Whole) where
   abbrev t : goal.After-sum
-  t = c.before.before.before.before
+  t = c.before.before
 
   abbrev x : Pair
   x = c.in-Whole.x
@@ -87,7 +87,7 @@ pub difference-m-requires : goal.difference-m-requires
 difference-m-requires c = (rw c.multiple.ensures (wider (lit≤ tt) (multiple-within 3 (o (t c.before)).requires.2)), wider (lit≤ tt) (x_small c.before))
 
 -- ---- with m
-module _ (c : goal.After-difference-m) where
+module _ (c : at.After-difference tie.the-claims reads.Pre reads.Post) where
   abbrev k : goal.In-Whole
   k = c.before.before
 
@@ -112,4 +112,4 @@ returns-then-not-within c d3 d4 n h r =
     (subst (PartsWithin middle_size) same (middle_within (d0 u) (d1 u) (d2 u) d3 d4 n (o u).requires.0 h r))
 
 pub returns : goal.returns
-returns c = let s = c.before.before in (second s, told c.within.result c.within.ensures c.if-not-within.false-raw)
+returns c = (second c.before.before, told c.within.result c.within.ensures c.if-not-within.false-raw)

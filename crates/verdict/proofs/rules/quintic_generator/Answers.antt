@@ -1,8 +1,7 @@
 -- `rules::quintic_generator` meets its contract, by the quintic rule, or by the rule of three where d0 is 0.
-use mathlib.Core.Path.{◌≡◌, sym, ap, ap₂, ◌∙◌, subst}
-use mathlib.Core.List.{List, [], ◌∷◌}
+use mathlib.Core.Path.{◌≡◌, sym, subst}
+use mathlib.Core.List.{[], ◌∷◌}
 use mathlib.Core.Logic.{◌≢◌}
-use borrow.Author.Rules.{rules}
 use lib.Dec.{lit≤}
 use Rattle.whole.specs.Number.{Tells}
 use Rattle.whole.proofs.Flags.{told, untold}
@@ -26,14 +25,13 @@ end_generator-requires c = let h = c.requires in (h 2, h 3, h 4)
 
 pub returns-then-is_zero : goal.returns-then-is_zero
 returns-then-is_zero c =
-    let s = c in
-    let a = s.args in
+    let a = c.args in
     let z = subst (Tells (a.d0 ≡ pairs.none)) c.if-is_zero.true c.is_zero.ensures in
     subst (λ d. IsGeneration (power_form (d ∷ a.d1 ∷ a.d2 ∷ a.d3 ∷ a.d4 ∷ [])) c.end_generator.result) (sym z) c.end_generator.ensures
 
 -- ---- d0 is not 0
 module _ (c : goal.Else-is_zero) where
-  abbrev o : goal.Start
+  abbrev o : at.Start tie.the-claims reads.Pre reads.Post
   o = c.before.before
 
   abbrev d0 : Pair
@@ -59,14 +57,13 @@ middle_of-requires c = let h = (o c).requires in (h 0, h 1, h 2, some c)
 
 pub returns-in_default : goal.returns-in_default
 returns-in_default c κ w g =
-    let t = c in
-    let s = t.before in
-    subst (IsMiddle (d0 s) (d1 s) (d2 s)) c.in_default.is t.middle_of.ensures (d3 s) (d4 s) _ ((o s).requires 4) (quintic_rule (d0 s) (d1 s) (d2 s) (d3 s) (d4 s) κ w g)
+    let s = c.before.before in
+    subst (IsMiddle (d0 s) (d1 s) (d2 s)) c.in_default.is c.middle_of.ensures (d3 s) (d4 s) _ ((o s).requires 4) (quintic_rule (d0 s) (d1 s) (d2 s) (d3 s) (d4 s) κ w g)
 
 -- ---- with m
 module _ (c : goal.In-Found) where
   abbrev s : goal.Else-is_zero
-  s = c.before.before.before.before
+  s = c.before.before
 
   abbrev m : Pair
   m = c.in-Found.m
@@ -92,7 +89,7 @@ module _ (c : at.After-equal tie.the-claims reads.Pre reads.Post) where
   not_by = quintic-not (d0 (s k)) (d1 (s k)) (d2 (s k)) (d3 (s k)) (d4 (s k)) (m k) (some (s k)) (middle k).0
 
 pub returns-then-not-equal : goal.returns-then-not-equal
-returns-then-not-equal c = let q = c.before in not_by q (λ r. untold q.equal.result (third-is q) c.if-not-equal.true-raw r.third)
+returns-then-not-equal c = not_by c.before (λ r. untold c.equal.result (third-is c.before) c.if-not-equal.true-raw r.third)
 
 pub product-requires-3 : goal.product-requires-3
 product-requires-3 c = let h = (middle (k c.before)).1 in (wider (lit≤ tt) h, wider (lit≤ tt) h)
@@ -112,14 +109,14 @@ module _ (c : at.After-equal2 tie.the-claims reads.Pre reads.Post) where
   fourth-is = subst (λ X. X) (λ i. Tells (c.product-3.ensures i ≡ c.product-4.ensures i) c.equal-2.result) c.equal-2.ensures
 
 pub returns-then-not-equal-2 : goal.returns-then-not-equal-2
-returns-then-not-equal-2 c = let t = c.before in not_by (q t) (λ r. untold t.equal-2.result (fourth-is t) c.if-not-equal-2.true-raw r.fourth)
+returns-then-not-equal-2 c = not_by (q c.before) (λ r. untold c.equal-2.result (fourth-is c.before) c.if-not-equal-2.true-raw r.fourth)
 
 rule : (c : goal.Else-not-equal-2) → let t = k (q c.before) in QuinticRule (d0 (s t)) (d1 (s t)) (d2 (s t)) (d3 (s t)) (d4 (s t)) (m t)
 rule c =
     let t = c.before in record {
       second = (middle (k (q t))).0;
       third = told (q t).equal.result (third-is (q t)) (third t).if-not-equal.false-raw;
-      fourth = told t.equal-2.result (fourth-is t) c.if-not-equal-2.false-raw;
+      fourth = told c.equal-2.result (fourth-is t) c.if-not-equal-2.false-raw;
     }
 
 pub by_middle-requires : goal.by_middle-requires
