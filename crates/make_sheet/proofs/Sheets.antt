@@ -13,7 +13,7 @@ use native.Mathlib.Omega.{arith}
 use lib.ListN.{length, take, replicate, length-replicate, length-take}
 use lib.Seq.{length-take-le, take-append-add, get_or-take}
 use borrow.Author.Tests.{ltb-false}
-use Rattle.refusal.specs.Answers.{given, with_given, if◌then◌else◌}
+use Rattle.refusal.specs.Answers.{given, with_given, when◌then◌else◌}
 use Rattle.refusal.proofs.Answers.{by_test, no_answer, given_once}
 use Rattle.pair.specs.declared.Pair.{Pair}
 use Rattle.curve.specs.declared.Curve.{Curve}
@@ -135,7 +135,7 @@ module _ (ls : List Line) (s : List ℕ) where
     no_curves = given_once (sym h.lists ∙ lists_of s refl ∙ (λ i. with_given (λ es. map points_of_entry (curves es)) (soundly (h.sound i) (h.stands.0 i))))
 
     begins : (a : Change) → StartsFor s number t a → step.Next next ≡ afterwards a → Holds (ls ++ (line.Mission number ∷ [])) next t
-    unfolding if◌then◌else◌
+    unfolding when◌then◌else◌
     begins (change.Refused f) g e = not-refused e
     begins change.Done g e =
         let v = start-listed s number t (sym g.says) in

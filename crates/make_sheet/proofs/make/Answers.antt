@@ -5,7 +5,7 @@ use Prim.Native.Nat.{ℕ, ◌-◌}
 use native.Mathlib.Omega.{arith}
 use lib.ListN.{length, replicate}
 use borrow.Author.Tests.{le-ltb}
-use Rattle.refusal.specs.Answers.{given, if◌then◌else◌}
+use Rattle.refusal.specs.Answers.{given, when◌then◌else◌}
 use Rattle.record.specs.Records.{longest, erased}
 use Rattle.record.specs.Promise.{bytes_after}
 use Rattle.sheet.specs.declared.Change.{Change}
@@ -18,7 +18,7 @@ use Rattle.make_sheet.proofs.make.Goals as goal
 
 -- an area of a sheet's full length is erased
 erased_as : (s : List ℕ) {t : List ℕ} {r : Change} → length s ≡ longest → Erases s t r → t ≡ replicate longest erased
-unfolding erasing if◌then◌else◌
+unfolding erasing when◌then◌else◌
 erased_as s {t} l h =
     let is : erasing s ≡ given (replicate (length s) erased) = rw (le-ltb longest (length s) (omega arith)) in
     h.leaves ∙ ap (bytes_after s) is ∙ ap (λ (n : ℕ). replicate n erased) l
