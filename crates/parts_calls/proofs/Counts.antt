@@ -3,10 +3,8 @@
 --   told-left      what is told and not refused leaves the ended state in the area
 use mathlib.Core.Path.{◌≡◌, refl}
 use mathlib.Core.List.{List}
-use mathlib.Core.Logic.{◌⊎◌, ⊎_elim}
-use native.Mathlib.Omega.{arith}
 use lib.IntN.{ℤ}
-use denote.Enum.Declared.{tag_of}
+use Rattle.refusal.specs.declared.Refusal.{Refusal}
 use Rattle.sheet.specs.declared.Checked.{Checked}
 use Rattle.sheet.specs.declared.Checked.TheVariants as checking
 use Rattle.sheet.specs.Promise.{Checks}
@@ -15,7 +13,6 @@ use Rattle.states.specs.declared.State.{State}
 use Rattle.parts.specs.declared.Told.{Told}
 use Rattle.parts.specs.declared.Told.TheVariants as told
 use Rattle.parts.specs.Promise.{Asks, checked, not_ended, asks_none}
-use Rattle.parts.specs.contracts.Told.{the_type}
 use Rattle.parts_calls.specs.Promise.{left, ended_area}
 use Rattle.parts_calls.specs.Steps.{Countable}
 
@@ -28,7 +25,7 @@ countable st _ (checked s x h c) = by x c
 countable st _ (not_ended s h) = tt
 countable st _ (asks_none h) = tt
 
-pub told-left : (before : List ℤ) (st : State) (t : Told) → (tag_of the_type t ≡ 0) ⊎ (tag_of the_type t ≡ 1) → ended_area before st t ≡ left before st
-told-left before st (told.Sheet x) k = refl
-told-left before st told.NotEnded k = refl
-told-left before st (told.Refused r) k = ⊎_elim (λ i. absurd (omega arith)) (λ i. absurd (omega arith)) k
+pub told-left : (before : List ℤ) (st : State) (t : Told) → ((r : Refusal) → t ≡ told.Refused r → ⊥) → ended_area before st t ≡ left before st
+told-left before st (told.Sheet x) n = refl
+told-left before st told.NotEnded n = refl
+told-left before st (told.Refused r) n = absurd (n r refl)

@@ -21,12 +21,12 @@ on_once before a b r q f (inr h) (inr k) = f h.1 k.1
 
 module _ (before a b : List ℤ) (r q : ℤ) where
   pub start_once : StartCall before a r → StartCall before b q → (r ≡ q) × (a ≡ b)
-  start_once = on_once before a b r q (λ h k. (h.2 ∙ sym k.2, h.3 ∙ ap (left before) (once.starts-once h.0 k.0 h.1 k.1) ∙ sym k.3))
+  start_once = on_once before a b r q (λ h k. (h.2 ∙ sym k.2, h.3 ∙ ap (left before) (once.starts_once h.0 k.0 h.1 k.1) ∙ sym k.3))
 
   pub feed_once : (part : List ℕ) → FeedCall before part a r → FeedCall before part b q → (r ≡ q) × (a ≡ b)
   feed_once part =
       on_once before a b r q (λ h k.
-      let e = once.feeds-once (state_in before) part h.0 k.0 h.1 k.1 in (
+      let e = once.feeds_once (state_in before) part h.0 k.0 h.1 k.1 in (
         h.2 ∙ ap (λ (x : Fed). change_code x.answer) e ∙ sym k.2,
         h.3 ∙ ap (λ (x : Fed). fed_area before x.state x.answer) e ∙ sym k.3,
       ))
@@ -34,10 +34,10 @@ module _ (before a b : List ℤ) (r q : ℤ) where
   pub end_once : EndCall before a r → EndCall before b q → (r ≡ q) × (a ≡ b)
   end_once =
       on_once before a b r q (λ h k.
-      let s = once.ends-once (state_in before) h.0 k.0 h.2 k.2 in
-      let t = once.asks-once k.0 h.1 k.1 (subst (λ (x : State). Asks x h.1) s h.3) k.3 in
+      let s = once.ends_once (state_in before) h.0 k.0 h.2 k.2 in
+      let t = once.asks_once k.0 h.1 k.1 (subst (λ (x : State). Asks x h.1) s h.3) k.3 in
       (h.4 ∙ ap told_code t ∙ sym k.4, h.5 ∙ ap₂ (ended_area before) s t ∙ sym k.5))
 
   pub ask_once : AskCall before r → AskCall before q → r ≡ q
   ask_once h k =
-      (on_once before before before r q (λ x y. (x.2 ∙ ap told_code (once.asks-once (state_in before) x.0 y.0 x.1 y.1) ∙ sym y.2, refl)) h k).0
+      (on_once before before before r q (λ x y. (x.2 ∙ ap told_code (once.asks_once (state_in before) x.0 y.0 x.1 y.1) ∙ sym y.2, refl)) h k).0

@@ -258,23 +258,23 @@ module _ (s part : List ℕ) (bytes : AllBytes s) (fits : length s + length part
 
 overfull-is : (st : State) (s part : List ℕ) → longest < st.count + length part → longest < length s + length part → fed_by st part ≡ state_of (s ++ part) false
 unfolding fed_by if◌then◌else◌
-overfull-is st s part l m = rw (lt-ltb longest (st.count + length part) l) (sym (state-long (s ++ part) false (omega (arith, length-append s part))))
+overfull-is held s part l m = rw (lt-ltb longest (held.count + length part) l) (sym (state-long (s ++ part) false (omega (arith, length-append s part))))
 
 pub fed_is : (st : State) (s part : List ℕ) → IsOf st s false → fed_by st part ≡ state_of (s ++ part) false
-fed_is st s part h =
+fed_is held s part h =
     by_order (length s) longest
     (λ l.
     let e = h.is ∙ state_short s false l in
-    let n : st.count ≡ length s = ap (λ (x : State). x.count) e in
+    let n : held.count ≡ length s = ap (λ (x : State). x.count) e in
     by_order (length s + length part) longest
     (λ f. ap (λ (x : State). fed_by x part) e ∙ going_is s part h.bytes f)
-    (λ m. overfull-is st s part (omega arith) m))
+    (λ m. overfull-is held s part (omega arith) m))
     (λ l.
-    let n : st.count ≡ suc longest = ap (λ (x : State). x.count) (h.is ∙ state-long s false l) in
-    overfull-is st s part (omega arith) (omega arith))
+    let n : held.count ≡ suc longest = ap (λ (x : State). x.count) (h.is ∙ state-long s false l) in
+    overfull-is held s part (omega arith) (omega arith))
 
 pub ended_is : (st : State) (s : List ℕ) (ended : Bool) → IsOf st s ended → ended_in st ≡ state_of s true
-ended_is st s ended h =
+ended_is held s ended h =
     by_order (length s) longest
     (λ l. ap ended_in (h.is ∙ state_short s ended l) ∙ sym (state_short s true l))
     (λ l. ap ended_in (h.is ∙ state-long s ended l) ∙ sym (state-long s true l))

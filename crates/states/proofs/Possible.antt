@@ -116,7 +116,7 @@ module _ (s : List ℕ) (ended : Bool) (bytes : AllBytes s) (l : length s ≤ lo
       }
 
 pub reached_possible : (st : State) → Reached st → Possible st
-reached_possible st (s, ended, h) =
+reached_possible held (s, ended, h) =
     by_order (length s) longest
     (λ l. subst Possible (sym (h.is ∙ state_short s ended l)) (record { flag = number_small ended; numbers = inr (standing s ended h.bytes l) }))
     (λ l. subst Possible (sym (h.is ∙ state-long s ended l)) (record { flag = number_small ended; numbers = inl refl }))
@@ -183,9 +183,9 @@ possible_reached st p = by p.numbers
 
 -- whether the bytes of a state have ended
 pub open_of : (st : State) → Reached st → (st.ended ≡ 1 → ⊥) → (s : List ℕ) × IsOf st s false
-open_of st (s, false, h) o = (s, h)
-open_of st (s, true, h) o = absurd (o (state_flag st s true h))
+open_of held (s, false, h) o = (s, h)
+open_of held (s, true, h) o = absurd (o (state_flag held s true h))
 
 pub ended_of : (st : State) → Reached st → (st.ended ≡ 0 → ⊥) → (s : List ℕ) × IsOf st s true
-ended_of st (s, false, h) o = absurd (o (state_flag st s false h))
-ended_of st (s, true, h) o = (s, h)
+ended_of held (s, false, h) o = absurd (o (state_flag held s false h))
+ended_of held (s, true, h) o = (s, h)

@@ -20,7 +20,7 @@ use Rattle.refusal.specs.declared.Fault.{Fault}
 use Rattle.refusal.specs.Answers.{Answer, given, if◌then◌else◌}
 use Rattle.refusal.proofs.Answers.{by_test, no_answer, given_once, refused_once}
 use Rattle.text.specs.declared.Place.{Place}
-use Rattle.text.specs.declared.Place.TheVariants.{At, Full}
+use Rattle.text.specs.declared.Place.TheVariants.{At}
 use Rattle.text.specs.declared.TextAnswer.{TextAnswer}
 use Rattle.text.specs.declared.TextAnswer.TheVariants.{Written, Refused}
 use Rattle.text.specs.Promise.{answer_of_text, asked, area_after, TextIn}

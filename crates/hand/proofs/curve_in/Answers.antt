@@ -1,5 +1,4 @@
 -- `curve_in` meets its contract: the curve's numbers are those that were given, one by one.
-use borrow.Author.Rules.{rules}
 use mathlib.Core.Path.{◌∙◌}
 use mathlib.Core.List.{[], ◌∷◌}
 use Rattle.hand.proofs.Areas.{spelled-all}
@@ -16,13 +15,11 @@ returns-then-p-eq8 c =
 
 pub returns-then-p-eq12 : goal.returns-then-p-eq12
 returns-then-p-eq12 c =
-    let four = c in
-    let two = four in
-    let p0 = two.pair_at-then-p-eq12.ensures in
-    let p1 = two.pair_at-then-p-eq12-2.ensures in
-    let p2 = four.pair_at-then-p-eq12-3.ensures in
-    let p3 = four.pair_at-then-p-eq12-4.ensures in
+    let p0 = c.pair_at-then-p-eq12.ensures in
+    let p1 = c.pair_at-then-p-eq12-2.ensures in
+    let p2 = c.pair_at-then-p-eq12-3.ensures in
+    let p3 = c.pair_at-then-p-eq12-4.ensures in
     let p4 = c.pair_at-then-p-eq12-5.ensures in
     let p5 = c.pair_at-then-p-eq12-6.ensures in
     (λ i. (p0 i).re ∷ (p0 i).im ∷ (p1 i).re ∷ (p1 i).im ∷ (p2 i).re ∷ (p2 i).im ∷ (p3 i).re ∷ (p3 i).im ∷ (p4 i).re ∷ (p4 i).im ∷ (p5 i).re ∷ (p5 i).im ∷ [])
-    ∙ spelled-all 12 _ two.if-p-eq12.true
+    ∙ spelled-all 12 _ c.if-p-eq12.true

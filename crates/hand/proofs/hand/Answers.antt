@@ -11,19 +11,15 @@ use Rattle.hand.proofs.hand.Goals as goal
 
 pub returns-then-area-n : goal.returns-then-area-n
 returns-then-area-n c =
-    let refused = c in
-    let tested = refused in
-    hands_short tested.args.values.now tested.if-area-n.true (hands_same refl refused.refused.type_inv refused.refused.ensures)
+    hands_short c.args.values.now c.if-area-n.true (hands_same refl c.refused.type_inv c.refused.ensures)
 
 pub shape_of-area : goal.shape_of-area
 shape_of-area c = search rules
 
 pub returns : goal.returns
 returns c =
-    let k = c in
-    let s = k.args in
-    let vs = s.values.now in
-    let rest = drop (length vs) s.area.now in
-    hands_given vs (omega (arith, k.if-area-n.false)) (shape_of-area c)
-    (fills_rest (length vs) vs rest k.put.new.0 c.clear.new.0 refl k.put.ensures c.clear.ensures)
-    (to_z_pos w64 (length vs) (omega (arith, k.before.before.before.well-formed)))
+    let vs = c.args.values.now in
+    let rest = drop (length vs) c.args.area.now in
+    hands_given vs (omega (arith, c.if-area-n.false)) (shape_of-area c)
+    (fills_rest (length vs) vs rest c.put.new.area c.clear.new.area refl c.put.ensures c.clear.ensures)
+    (to_z_pos w64 (length vs) (omega (arith, c.well_formed)))

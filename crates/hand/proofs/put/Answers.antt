@@ -1,11 +1,10 @@
 -- `put` meets its contract. Invariant: the first i values, and then what was there from i on.
-use borrow.Author.Rules.{rules}
 use mathlib.Core.Path.{◌≡◌, refl, ap, ap₂, ◌∙◌}
 use mathlib.Core.List.{List, ◌++◌}
-use Prim.Native.Nat.{ℕ, ◌≤◌, ◌-◌}
+use Prim.Native.Nat.{ℕ}
 use native.Mathlib.Omega.{arith}
 use lib.IntN.{ℤ, pos}
-use lib.ListN.{length, drop, take, set, get_or, length-set}
+use lib.ListN.{length, drop, set, get_or, length-set}
 use lib.Seq.{take_all}
 use mir.Syntax.{w64}
 use mir.ValLaws.{to_z-of_z}
@@ -20,7 +19,7 @@ loop-i-preserved c =
     let l = c.loop-i in
     let s = c.args in
     let v = get_or s.values.now l.i (pos 0) in
-    let stored = to_z-of_z w64 v (record { sfits = c.area-1.given }) in (
+    let stored = to_z-of_z w64 v (record { sfits = omega arith }) in (
       omega arith,
       ap (set l.area l.i) stored ∙ ap (λ (xs : List ℤ). set xs l.i v) l.invariant.1
           ∙ put-more (pos 0) l.i s.values.now s.area.now (omega arith) (omega arith),

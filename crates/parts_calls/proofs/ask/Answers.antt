@@ -1,5 +1,4 @@
 -- `ask` meets its contract: by the room, and by what the library tells.
-use borrow.Author.Rules.{rules}
 use mathlib.Core.Path.{refl, ap, ◌∙◌, subst}
 use mathlib.Core.Logic.{inl, inr}
 use native.Mathlib.Omega.{arith}
@@ -20,9 +19,7 @@ told_code-requires c = countable _ c.ask.result c.ask.ensures
 
 pub returns : goal.returns
 returns c =
-    let asked = c in
-    let read = asked in
     inr (
-      omega (arith, read.if-state-lt-NUMBERS.false),
-      (asked.ask.result, subst (λ (st : State). Asks st asked.ask.result) read.state_in.ensures asked.ask.ensures, settled c.told_code.type_inv c.told_code.ensures),
+      omega (arith, c.if-state-lt-NUMBERS.false),
+      (c.ask.result, subst (λ (st : State). Asks st c.ask.result) c.state_in.ensures c.ask.ensures, settled c.told_code.type_inv c.told_code.ensures),
     )

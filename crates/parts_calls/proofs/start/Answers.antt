@@ -1,5 +1,4 @@
 -- `start` meets its contract: by the room.
-use borrow.Author.Rules.{rules}
 use mathlib.Core.Path.{refl, ap, ◌∙◌}
 use mathlib.Core.Logic.{inl, inr}
 use native.Mathlib.Omega.{arith}
@@ -14,5 +13,4 @@ returns-then-state-lt-NUMBERS c = inl (omega (arith, c.if-state-lt-NUMBERS.true)
 
 pub returns : goal.returns
 returns c =
-    let begun = c in
-    inr (omega (arith, begun.if-state-lt-NUMBERS.false), (begun.start.result, begun.start.ensures, refl, c.put_state.ensures))
+    inr (omega (arith, c.if-state-lt-NUMBERS.false), (c.start.result, c.start.ensures, refl, c.put_state.ensures))

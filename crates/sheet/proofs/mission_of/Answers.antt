@@ -12,5 +12,4 @@ mission_in-requires c = let start = c in ((mission-at start.args.sheet.now).some
 
 pub returns : goal.returns
 returns c =
-    let start = c in
-    ap mission.Number c.mission_in.ensures ∙ sym ((mission-at start.args.sheet.now).some (λ z. c.if-end-eq0.false (start.requires ∙ z))).1
+    ap mission.Number c.mission_in.ensures ∙ sym ((mission-at c.args.sheet.now).some (λ z. c.if-end-eq0.false (c.requires ∙ z))).1

@@ -10,4 +10,4 @@ returns c =
     let end = c in
     let said = end in
     let front = said in
-    text_in _ refl (said.put_said-end.auto.0 ∙ front.put_front-front.auto.0) (front.put_front-front.ensures then said.put_said-end.ensures) end.ended.ensures
+    text_in _ refl (said.put_said-end.auto.area ∙ front.put_front-front.auto.area) (front.put_front-front.ensures then said.put_said-end.ensures) end.ended.ensures

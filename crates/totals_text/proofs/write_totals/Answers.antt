@@ -8,4 +8,4 @@ pub returns : goal.returns
 returns c =
     let end = c in
     let put = end in
-    text_in _ refl put.put_totals-end.auto.0 put.put_totals-end.ensures end.ended.ensures
+    text_in _ refl put.put_totals-end.auto.area put.put_totals-end.ensures end.ended.ensures

@@ -1,5 +1,4 @@
 -- `walks::cubic_in` meets its contract: the points are those of the record, one by one.
-use borrow.Author.Rules.{rules}
 use mathlib.Core.Path.{◌≡◌}
 use mathlib.Core.List.{[], ◌∷◌}
 use Prim.Native.Nat.{◌-◌, ◌/◌}
@@ -12,8 +11,7 @@ use Rattle.record.proofs.points.cubic_in.Goals as goal
 pub returns : goal.returns
 unfolding points_in coordinates
 returns c =
-    let s = c in
-    let words : (length s.args.bytes.now - 4) / 4 ≡ 8 = omega (arith, s.requires) in
+    let words : (length c.args.bytes.now - 4) / 4 ≡ 8 = omega (arith, c.requires) in
     let p0 = c.point_at.ensures in
     let p1 = c.point_at-2.ensures in
     let p2 = c.point_at-3.ensures in

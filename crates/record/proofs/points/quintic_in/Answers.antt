@@ -1,5 +1,4 @@
 -- `walks::quintic_in` meets its contract: the points are those of the record, one by one.
-use borrow.Author.Rules.{rules}
 use mathlib.Core.Path.{◌≡◌}
 use mathlib.Core.List.{[], ◌∷◌}
 use Prim.Native.Nat.{◌-◌, ◌/◌}
@@ -12,14 +11,11 @@ use Rattle.record.proofs.points.quintic_in.Goals as goal
 pub returns : goal.returns
 unfolding points_in coordinates
 returns c =
-    let four = c in
-    let two = four in
-    let s = two in
-    let words : (length s.args.bytes.now - 4) / 4 ≡ 12 = omega (arith, s.requires) in
-    let p0 = two.point_at.ensures in
-    let p1 = two.point_at-2.ensures in
-    let p2 = four.point_at-3.ensures in
-    let p3 = four.point_at-4.ensures in
+    let words : (length c.args.bytes.now - 4) / 4 ≡ 12 = omega (arith, c.requires) in
+    let p0 = c.point_at.ensures in
+    let p1 = c.point_at-2.ensures in
+    let p2 = c.point_at-3.ensures in
+    let p3 = c.point_at-4.ensures in
     let p4 = c.point_at-5.ensures in
     let p5 = c.point_at-6.ensures in
     rw words (λ i. p0 i ∷ p1 i ∷ p2 i ∷ p3 i ∷ p4 i ∷ p5 i ∷ [])

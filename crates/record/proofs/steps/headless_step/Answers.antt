@@ -1,5 +1,4 @@
 -- `steps::headless_step` meets its contract: its tests are those of the definition, in the same order. Without its head a known kind has a wrong length.
-use borrow.Author.Rules.{rules}
 use borrow.Author.Tests.{eq-eqb, ne_eqb, lt-ltb, le-ltb}
 use mathlib.Core.Path.{sym, ◌∙◌}
 use Rattle.refusal.specs.Answers.{if◌then◌else◌}
@@ -45,47 +44,38 @@ returns-then-left-lt4 c =
 pub returns-then-may_stand : goal.returns-then-may_stand
 unfolding step_of sized_step if◌then◌else◌
 returns-then-may_stand c =
-    let known = c in
-    let k = known in
-    let e = k in
-    let start = e in
-    let rest = start.args.rest.now in
-    let told = sym k.kind_in.ensures ∙ known.in-Kind.is in
+    let rest = c.args.rest.now in
+    let told = sym c.kind_in.ensures ∙ c.in-Kind.is in
     let may = sym c.may_stand.ensures ∙ c.if-may_stand.true in
     rw (
-      ne_eqb _ _ e.if-left-eq0.false,
-      ne_eqb _ _ e.if-left-eq1.false,
-      ne_eqb _ _ (λ z. e.if-half_at-eq-ERASED_LENGTH.false (e.half_at.ensures.0 ∙ z)),
-      le-ltb _ 4 e.if-left-lt4.false,
+      ne_eqb _ _ c.if-left-eq0.false,
+      ne_eqb _ _ c.if-left-eq1.false,
+      ne_eqb _ _ (λ z. c.if-half_at-eq-ERASED_LENGTH.false (c.half_at.ensures.0 ∙ z)),
+      le-ltb _ 4 c.if-left-lt4.false,
       told,
       may,
-      ne_eqb _ _ (λ z. start.requires _ may (head_made _ rest e.if-left-lt4.false z (named-is kinds rest _ told))),
+      ne_eqb _ _ (λ z. c.requires _ may (head_made _ rest c.if-left-lt4.false z (named-is kinds rest _ told))),
     )
 
 pub returns-else-may_stand : goal.returns-else-may_stand
 unfolding step_of if◌then◌else◌
 returns-else-may_stand c =
-    let known = c in
-    let k = known in
-    let e = k in
     rw (
-      ne_eqb _ _ e.if-left-eq0.false,
-      ne_eqb _ _ e.if-left-eq1.false,
-      ne_eqb _ _ (λ z. e.if-half_at-eq-ERASED_LENGTH.false (e.half_at.ensures.0 ∙ z)),
-      le-ltb _ 4 e.if-left-lt4.false,
-      sym k.kind_in.ensures ∙ known.in-Kind.is,
+      ne_eqb _ _ c.if-left-eq0.false,
+      ne_eqb _ _ c.if-left-eq1.false,
+      ne_eqb _ _ (λ z. c.if-half_at-eq-ERASED_LENGTH.false (c.half_at.ensures.0 ∙ z)),
+      le-ltb _ 4 c.if-left-lt4.false,
+      sym c.kind_in.ensures ∙ c.in-Kind.is,
       sym c.may_stand.ensures ∙ c.if-may_stand.false,
     )
 
 pub returns-in-Unknown : goal.returns-in-Unknown
 unfolding step_of if◌then◌else◌
 returns-in-Unknown c =
-    let k = c in
-    let e = k in
     rw (
-      ne_eqb _ _ e.if-left-eq0.false,
-      ne_eqb _ _ e.if-left-eq1.false,
-      ne_eqb _ _ (λ z. e.if-half_at-eq-ERASED_LENGTH.false (e.half_at.ensures.0 ∙ z)),
-      le-ltb _ 4 e.if-left-lt4.false,
-      sym k.kind_in.ensures ∙ c.in-Unknown.is,
+      ne_eqb _ _ c.if-left-eq0.false,
+      ne_eqb _ _ c.if-left-eq1.false,
+      ne_eqb _ _ (λ z. c.if-half_at-eq-ERASED_LENGTH.false (c.half_at.ensures.0 ∙ z)),
+      le-ltb _ 4 c.if-left-lt4.false,
+      sym c.kind_in.ensures ∙ c.in-Unknown.is,
     )

@@ -2,7 +2,6 @@
 use mathlib.Core.Path.{sym, ◌∙◌}
 use Rattle.refusal.specs.Answers.{if◌then◌else◌}
 use Rattle.record.specs.Records.{kind_in}
-use borrow.Author.Rules.{rules}
 use Rattle.record.proofs.steps.kind_in.Goals as goal
 
 pub returns-then-is_named : goal.returns-then-is_named
@@ -16,11 +15,9 @@ returns-then-is_named-2 c = rw (sym c.is_named.ensures ∙ c.if-is_named.false, 
 pub returns-then-is_named-3 : goal.returns-then-is_named-3
 unfolding kind_in if◌then◌else◌
 returns-then-is_named-3 c =
-    let first = c in
-    rw (sym first.is_named.ensures ∙ first.if-is_named.false, sym c.is_named-2.ensures ∙ c.if-is_named-2.false, sym c.is_named-3.ensures ∙ c.if-is_named-3.true)
+    rw (sym c.is_named.ensures ∙ c.if-is_named.false, sym c.is_named-2.ensures ∙ c.if-is_named-2.false, sym c.is_named-3.ensures ∙ c.if-is_named-3.true)
 
 pub returns : goal.returns
 unfolding kind_in if◌then◌else◌
 returns c =
-    let first = c in
-    rw (sym first.is_named.ensures ∙ first.if-is_named.false, sym c.is_named-2.ensures ∙ c.if-is_named-2.false, sym c.is_named-3.ensures ∙ c.if-is_named-3.false)
+    rw (sym c.is_named.ensures ∙ c.if-is_named.false, sym c.is_named-2.ensures ∙ c.if-is_named-2.false, sym c.is_named-3.ensures ∙ c.if-is_named-3.false)

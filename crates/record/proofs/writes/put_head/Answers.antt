@@ -1,5 +1,4 @@
 -- `writes::put_head` meets its contract: the bytes of the head's word are the head's.
-use borrow.Author.Rules.{rules}
 use mathlib.Core.Path.{ap, ◌∙◌}
 use native.Mathlib.Omega.{arith}
 use Prim.Native.Nat.{ℕ}
@@ -12,6 +11,4 @@ put_word-requires c = let start = c in omega (arith, start.requires, (row-known 
 
 pub returns : goal.returns
 returns c =
-    let put = c in
-    let start = put in
-    put.put_word.ensures ∙ ap (λ (w : ℕ). written start.args.bytes.now 0 (word_bytes w)) put.head_word.ensures ∙ ap (written start.args.bytes.now 0) (row-known start.args.kind).head_is
+    c.put_word.ensures ∙ ap (λ (w : ℕ). written c.args.bytes.now 0 (word_bytes w)) c.head_word.ensures ∙ ap (written c.args.bytes.now 0) (row-known c.args.kind).head_is

@@ -1,5 +1,4 @@
 -- `writes::put_header` meets its contract: the head, and the two bytes of the number behind it.
-use borrow.Author.Rules.{rules}
 use mathlib.Core.Path.{◌≡◌, refl, ap, ◌∙◌}
 use mathlib.Core.List.{List, [], ◌∷◌}
 use Prim.Native.Nat.{ℕ, ◌/◌, ◌%◌}
@@ -16,8 +15,6 @@ behind a b c d x y (p ∷ q ∷ r ∷ t) e = absurd (omega arith)
 
 pub returns : goal.returns
 returns c =
-    let put = c in
-    let start = put in
-    let s = start.args.bytes.now in
-    let m = start.args.mission in
-    ap (λ (x : List ℕ). set (set x 4 (m % 256)) 5 (m / 256)) put.put_head.ensures ∙ behind 6 0 77 78 (m % 256) (m / 256) (drop 4 s) (omega (arith, length-drop 4 s, start.requires))
+    let s = c.args.bytes.now in
+    let m = c.args.mission in
+    ap (λ (x : List ℕ). set (set x 4 (m % 256)) 5 (m / 256)) c.put_head.ensures ∙ behind 6 0 77 78 (m % 256) (m / 256) (drop 4 s) (omega (arith, length-drop 4 s, c.requires))

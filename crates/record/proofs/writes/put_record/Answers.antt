@@ -11,18 +11,13 @@ put_head-requires c = c.requires.0
 
 pub put_numbers-requires : goal.put_numbers-requires
 put_numbers-requires c =
-    let h = c in
-    let s = h in
-    (h.put_head.auto.bytes ∙ s.requires.0 ∙ s.requires.1, s.requires.2)
+    (c.put_head.auto.bytes ∙ c.requires.0 ∙ c.requires.1, c.requires.2)
 
 pub shape_of-bytes : goal.shape_of-bytes
 shape_of-bytes c = let h = c in h.put_numbers.auto.bytes ∙ h.put_head.auto.bytes
 
 pub returns : goal.returns
 returns c =
-    let h = c in
-    let k = h in
-    let s = k in
-    h.put_numbers.ensures
-    ∙ ap (λ (t : List _). take 4 t ++ encoded s.args.xs.now) k.put_head.ensures
-    ∙ head_body s.args.kind s.args.bytes.now (encoded s.args.xs.now)
+    c.put_numbers.ensures
+    ∙ ap (λ (t : List _). take 4 t ++ encoded c.args.xs.now) c.put_head.ensures
+    ∙ head_body c.args.kind c.args.bytes.now (encoded c.args.xs.now)

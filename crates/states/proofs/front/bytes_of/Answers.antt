@@ -1,11 +1,7 @@
 -- `front::bytes_of` meets its contract. Invariant: the bytes of the first i words are written.
-use borrow.Author.Rules.{rules}
-use mathlib.Core.Path.{◌≡◌, refl, ◌∙◌}
-use Prim.Native.Nat.{◌-◌, ◌≤◌}
+use mathlib.Core.Path.{refl, ◌∙◌}
 use native.Mathlib.Omega.{arith}
-use lib.ListN.{length, take, replicate}
-use Rattle.record.specs.Numbers.{written}
-use Rattle.states.specs.Words.{unpacked}
+use lib.ListN.{replicate}
 use Rattle.states.proofs.Pieces.{unpacked-more, unpacked-all}
 use Rattle.states.proofs.front.bytes_of.Goals as goal
 
@@ -14,17 +10,15 @@ loop-i-init c = (refl, refl, omega arith)
 
 pub loop-i-preserved : goal.loop-i-preserved
 loop-i-preserved c =
-    let turn = c in
-    let words = turn.args.words.now in
+    let words = c.args.words.now in
     let put = c.put_long in (
-      unpacked-more (replicate 56 0) words turn.loop-i.i (omega (arith, turn.requires)) (omega (arith, turn.requires, c.loop-i-test.true)) turn.loop-i.invariant.0 put.ensures,
-      put.auto.0 ∙ turn.loop-i.invariant.1,
+      unpacked-more (replicate 56 0) words c.loop-i.i (omega (arith, c.requires)) (omega (arith, c.requires, c.loop-i-test.true)) c.loop-i.invariant.0 put.ensures,
+      put.auto.bytes ∙ c.loop-i.invariant.1,
       omega (arith, c.loop-i-test.true),
     )
 
 pub returns : goal.returns
 returns c =
-    let turn = c in
-    let words = turn.args.words.now in
-    turn.loop-i.invariant.0
-    ∙ unpacked-all (replicate 56 0) words turn.loop-i.i (omega (arith, turn.requires)) (omega (arith, turn.requires, turn.loop-i.invariant.2, c.loop-i-test.false))
+    let words = c.args.words.now in
+    c.loop-i.invariant.0
+    ∙ unpacked-all (replicate 56 0) words c.loop-i.i (omega (arith, c.requires)) (omega (arith, c.requires, c.loop-i.invariant.2, c.loop-i-test.false))

@@ -1,5 +1,4 @@
 -- `front::front_words` meets its contract: the bytes over zeros, and their words.
-use borrow.Author.Rules.{rules}
 use mathlib.Core.Path.{sym, ◌∙◌}
 use Rattle.states.proofs.Pieces.{padded-long, packed-padded}
 use Rattle.states.proofs.front.front_words.Goals as goal
@@ -12,5 +11,4 @@ words_of-requires c = let f = c in padded-long f.args.bytes.now f.fill.ensures
 
 pub returns : goal.returns
 returns c =
-    let f = c in
-    c.words_of.ensures ∙ packed-padded f.args.bytes.now f.fill.ensures
+    c.words_of.ensures ∙ packed-padded c.args.bytes.now c.fill.ensures

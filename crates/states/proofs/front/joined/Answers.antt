@@ -1,5 +1,4 @@
 -- `front::joined` meets its contract: the part is written over zeros.
-use borrow.Author.Rules.{rules}
 use mathlib.Core.Path.{◌≡◌, sym, ap, ◌∙◌, subst}
 use mathlib.Core.List.{List, ◌++◌}
 use Prim.Native.Nat.{ℕ, ◌-◌}
@@ -15,15 +14,12 @@ bytes_of-front-requires c = ap length c.requires.0 ∙ packed-long _
 
 pub returns : goal.returns
 returns c =
-    let fill = c in
-    let bytes = fill in
-    let s = bytes in
-    let held = s.args.held in
-    let part = s.args.part.now in
+    let held = c.args.held in
+    let part = c.args.part.now in
     subst
     (λ (r : List ℕ).
-    fill.fill.new.0 ≡ take (length (take (52 - held) (drop held r))) part ++ drop (length part) (take (52 - held) (drop held r))
-    → take held r ++ (fill.fill.new.0 ++ drop (52 - held) (drop held r)) ≡ padded (joined_to (take held (unpacked s.args.words.now)) held part))
-    (sym bytes.bytes_of-front.ensures)
-    (joined-padded s.args.words.now part held s.requires.0 s.requires.1)
-    fill.fill.ensures
+    c.fill.new.area ≡ take (length (take (52 - held) (drop held r))) part ++ drop (length part) (take (52 - held) (drop held r))
+    → take held r ++ (c.fill.new.area ++ drop (52 - held) (drop held r)) ≡ padded (joined_to (take held (unpacked c.args.words.now)) held part))
+    (sym c.bytes_of-front.ensures)
+    (joined-padded c.args.words.now part held c.requires.0 c.requires.1)
+    c.fill.ensures

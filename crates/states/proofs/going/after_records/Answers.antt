@@ -1,5 +1,4 @@
 -- `going::after_records` meets its contract: each number of the state by what the walk finds.
-use borrow.Author.Rules.{rules}
 use mathlib.Core.Path.{◌≡◌, ap, ◌∙◌}
 use mathlib.Core.Bool.{false}
 use mathlib.Core.List.{List}
@@ -17,19 +16,16 @@ use Rattle.states.proofs.going.after_records.Goals as goal
 
 pub overflow_add-result-2 : goal.overflow_add-result-2
 overflow_add-result-2 c =
-    let w = c in
-    let s = w in
-    omega (arith, walked_few w.walk-w.ensures, s.requires)
+    omega (arith, walked_few c.walk-w.ensures, c.requires)
 
 pub returns : goal.returns
 unfolding after_records
 returns c =
-    let w = c in
-    let s = w.args in
+    let s = c.args in
     let rest = s.rest.now in
-    let found = w.walk-w.ensures in
-    let tail : take (length rest - w.walk-w.result.end) (drop w.walk-w.result.end rest) ≡ drop (survey_of false rest).end rest =
-    rest-is rest w.walk-w.result.end ∙ ap (λ (n : ℕ). drop n rest) found.end_is
+    let found = c.walk-w.ensures in
+    let tail : take (length rest - c.walk-w.result.end) (drop c.walk-w.result.end rest) ≡ drop (survey_of false rest).end rest =
+    rest-is rest c.walk-w.result.end ∙ ap (λ (n : ℕ). drop n rest) found.end_is
     in
     λ i. record {
       ended = 0;

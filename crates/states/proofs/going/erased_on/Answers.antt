@@ -1,5 +1,4 @@
 -- `going::erased_on` meets its contract.
-use borrow.Author.Rules.{rules}
 use borrow.Author.Tests.{eq-eqb, ne_eqb}
 use mathlib.Core.Path.{ap}
 use Prim.Native.Nat.{ℕ, ◌+◌}
@@ -19,5 +18,4 @@ overflow_add-result c = let s = c in omega (arith, c.erased_bytes.ensures, erase
 pub returns : goal.returns
 unfolding if◌then◌else◌
 returns c =
-    let s = c in
-    rw (eq-eqb _ _ c.if-state-left.false) (ap (λ (n : ℕ). behind_in s.args.state + n) c.erased_bytes.ensures)
+    rw (eq-eqb _ _ c.if-state-left.false) (ap (λ (n : ℕ). behind_in c.args.state + n) c.erased_bytes.ensures)

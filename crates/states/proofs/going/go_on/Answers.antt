@@ -1,5 +1,4 @@
 -- `going::go_on` meets its contract: by how many bytes there are.
-use borrow.Author.Rules.{rules}
 use Prim.Native.Nat.{◌+◌}
 use native.Mathlib.Omega.{arith}
 use lib.ListN.{length}
@@ -13,23 +12,19 @@ use Rattle.states.proofs.going.go_on.Goals as goal
 pub returns-then-state-gt-LONGEST : goal.returns-then-state-gt-LONGEST
 unfolding fed_by if◌then◌else◌
 returns-then-state-gt-LONGEST c =
-    let s = c in
-    rw (lt-ltb longest (s.args.state.count + length s.args.part.now) (omega (arith, c.if-state-gt-LONGEST.true))) c.overfull.ensures
+    rw (lt-ltb longest (c.args.state.count + length c.args.part.now) (omega (arith, c.if-state-gt-LONGEST.true))) c.overfull.ensures
 
 pub returns-then-part-state : goal.returns-then-part-state
 unfolding fed_by if◌then◌else◌
 returns-then-part-state c =
-    let s = c in
-    rw (lt-ltb longest (s.args.state.count + length s.args.part.now) (omega (arith, c.if-part-state.true))) c.overfull-then-part-state.ensures
+    rw (lt-ltb longest (c.args.state.count + length c.args.part.now) (omega (arith, c.if-part-state.true))) c.overfull-then-part-state.ensures
 
 pub onward-requires : goal.onward-requires
 onward-requires c =
-    let s = c in
-    (short_stands s.args.state s.requires (omega (arith, c.if-state-gt-LONGEST.false)), omega (arith, c.if-part-state.false, c.if-state-gt-LONGEST.false))
+    (short_stands c.args.state c.requires (omega (arith, c.if-state-gt-LONGEST.false)), omega (arith, c.if-part-state.false, c.if-state-gt-LONGEST.false))
 
 pub returns : goal.returns
 unfolding fed_by if◌then◌else◌
 returns c =
-    let s = c in
-    rw (le-ltb longest (s.args.state.count + length s.args.part.now) (omega (arith, c.if-part-state.false, c.if-state-gt-LONGEST.false)))
+    rw (le-ltb longest (c.args.state.count + length c.args.part.now) (omega (arith, c.if-part-state.false, c.if-state-gt-LONGEST.false)))
     c.onward.ensures

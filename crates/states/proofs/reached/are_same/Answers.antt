@@ -1,8 +1,7 @@
 -- `reached::are_same` meets its contract. Invariant: the first i words are the same.
-use borrow.Author.Rules.{rules}
 use mathlib.Core.Path.{◌≡◌, sym, ap, ◌∙◌, subst}
 use mathlib.Core.List.{List}
-use Prim.Native.Nat.{ℕ, suc, ◌-◌, ◌<◌}
+use Prim.Native.Nat.{ℕ, suc}
 use native.Mathlib.Omega.{arith}
 use lib.ListN.{get_or}
 use lib.Seq.{ext_get_or}
@@ -24,5 +23,4 @@ loop-i-preserved c =
 
 pub returns : goal.returns
 returns c =
-    let s = c in
-    ext_get_or 0 s.args.a.now s.args.b.now (s.requires.0 ∙ sym s.requires.1) (λ j m. c.loop-i.invariant j (omega (arith, s.requires.0)))
+    ext_get_or 0 c.args.a.now c.args.b.now (c.requires.0 ∙ sym c.requires.1) (λ j m. c.loop-i.invariant j (omega (arith, c.requires.0)))

@@ -1,5 +1,4 @@
 -- `reached::is_overfull` meets its contract: field by field.
-use borrow.Author.Rules.{rules}
 use mathlib.Core.Path.{ap}
 use Rattle.whole.proofs.Flags.{told-map}
 use Rattle.record.specs.Numbers.{words_in}
@@ -24,20 +23,15 @@ returns-then-state-ne0-4 c = λ h. c.if-state-ne0-4.true (ap (λ (x : State). x.
 pub returns : goal.returns
 unfolding words_in
 returns c =
-    let fifth = c in
-    let fourth = fifth in
-    let third = fourth in
-    let second = third in
-    let first = second in
-    let st = first.args.state in
+    let st = c.args.state in
     told-map
     (λ e i. record {
       ended = st.ended;
-      count = first.if-state.false i;
-      mission = second.if-state-ne0.false i;
-      curves = third.if-state-ne0-2.false i;
-      place = fourth.if-state-ne0-3.false i;
-      erased = fifth.if-state-ne0-4.false i;
+      count = c.if-state.false i;
+      mission = c.if-state-ne0.false i;
+      curves = c.if-state-ne0-2.false i;
+      place = c.if-state-ne0-3.false i;
+      erased = c.if-state-ne0-4.false i;
       words = e i;
     })
     (ap (λ (x : State). x.words))

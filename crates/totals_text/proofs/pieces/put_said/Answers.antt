@@ -16,4 +16,4 @@ returns-in-Sheet c =
     then p2.put.ensures)
 
 pub returns-in-Refused : goal.returns-in-Refused
-returns-in-Refused c = let p = c in writes_same (ap (λ (x : Checked). said (answer_of_checked x)) (sym p.in-Refused.is)) p.Put-refused.ensures
+returns-in-Refused c = let p = c in writes_same (ap (λ (x : Checked). said (answer_of_checked x)) (sym p.in-Refused.is)) p.put_refused.ensures
