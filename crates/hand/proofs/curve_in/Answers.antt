@@ -1,5 +1,4 @@
 -- `curve_in` meets its contract: the curve's numbers are those that were given, one by one.
-use borrow.Author.Rules.{rules}
 use mathlib.Core.Path.{◌∙◌}
 use mathlib.Core.List.{[], ◌∷◌}
 use Rattle.hand.proofs.Areas.{spelled-all}

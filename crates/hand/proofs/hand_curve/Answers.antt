@@ -1,5 +1,4 @@
 -- `hand_curve` meets its contract.
-use borrow.Author.Rules.{rules}
 use mathlib.Core.Path.{◌≡◌, sym, ap, ◌∙◌}
 use lib.IntN.{ℤ}
 use mathlib.Core.List.{List}

@@ -1,11 +1,10 @@
 -- `put` meets its contract. Invariant: the first i values, and then what was there from i on.
-use borrow.Author.Rules.{rules}
 use mathlib.Core.Path.{◌≡◌, refl, ap, ap₂, ◌∙◌}
 use mathlib.Core.List.{List, ◌++◌}
-use Prim.Native.Nat.{ℕ, ◌≤◌, ◌-◌}
+use Prim.Native.Nat.{ℕ}
 use native.Mathlib.Omega.{arith}
 use lib.IntN.{ℤ, pos}
-use lib.ListN.{length, drop, take, set, get_or, length-set}
+use lib.ListN.{length, drop, set, get_or, length-set}
 use lib.Seq.{take_all}
 use mir.Syntax.{w64}
 use mir.ValLaws.{to_z-of_z}

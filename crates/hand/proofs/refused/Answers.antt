@@ -1,5 +1,4 @@
 -- `refused` meets its contract.
-use borrow.Author.Rules.{rules}
 use mathlib.Core.Path.{ap}
 use Rattle.refusal.specs.Answers as answer
 use Rattle.hand.proofs.Areas.{hands_same}

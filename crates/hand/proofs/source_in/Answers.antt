@@ -1,5 +1,4 @@
 -- `source_in` meets its contract: the pairs' numbers are those that were given, one by one.
-use borrow.Author.Rules.{rules}
 use mathlib.Core.Path.{◌∙◌}
 use mathlib.Core.List.{[], ◌∷◌}
 use Rattle.hand.proofs.Areas.{spelled-all}

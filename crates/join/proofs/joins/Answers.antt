@@ -2,25 +2,22 @@
 use mathlib.Core.Path.{◌≡◌, refl, sym, ap, ◌∙◌, subst}
 use mathlib.Core.List.{List, []}
 use mathlib.Core.Logic.{inl, inr}
-use Prim.Native.Nat.{◌-◌, ◌≤◌}
+use Prim.Native.Nat.{◌-◌}
 use borrow.Rule.Slice.PartMut.{same_len_mid}
 use native.Mathlib.Omega.{arith}
-use borrow.Author.Rules.{rules}
 use lib.IntN.{ℤ}
 use lib.ListN.{length}
 use Rattle.refusal.specs.declared.Refusal.{Refusal}
 use Rattle.refusal.specs.declared.Refusal.TheVariants as R
 use Rattle.refusal.specs.Table.{First, number_of}
 use Rattle.refusal.specs.Answers.{given}
-use Rattle.whole.specs.Number.{Tells}
-use Rattle.whole.proofs.Flags.{told, untold}
 use Rattle.area.specs.Area.{Cleared}
 use Rattle.area.proofs.Areas.{fills_rest}
 use Rattle.area.proofs.Promises.{refused_in}
 use Rattle.pair.specs.declared.Pair.{Pair}
 use Rattle.join.specs.declared.JoinAnswer.{JoinAnswer}
 use Rattle.join.specs.declared.JoinAnswer.TheVariants as answers
-use Rattle.join.specs.Promise.{EndsInRange, DeadEnd, Joined, causes, numbers}
+use Rattle.join.specs.Promise.{Joined, causes, numbers}
 use Rattle.join.proofs.Writing.{numbers-length}
 use Rattle.join.proofs.joins.Goals as goal
 

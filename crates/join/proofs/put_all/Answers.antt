@@ -1,11 +1,10 @@
 -- `join::put_all` meets its contract: the first and the last root, and the triples for both signs of the last.
-use mathlib.Core.Path.{◌≡◌, sym, ap, ◌∙◌, subst}
+use mathlib.Core.Path.{sym, ap, ◌∙◌}
 use mathlib.Core.Logic.{◌≢◌, inl, inr}
 use native.Mathlib.Omega.{arith}
-use borrow.Author.Rules.{rules}
 use Rattle.pair.specs.declared.Pair.{Pair}
 use Rattle.pair.specs.Pairs.{pairs, times, PartsWithin}
-use Rattle.divisor.specs.Promise.{KeptRoot, IsPairRoot}
+use Rattle.divisor.specs.Promise.{KeptRoot}
 use Rattle.divisor.proofs.Roots.{pair-root-within}
 use Rattle.curve.specs.Sizes.{coordinate_reach}
 use Rattle.join.specs.Promise.{DeadEnd}

@@ -2,15 +2,13 @@
 use mathlib.Core.Path.{◌≡◌, sym, ap, ap₂, ◌∙◌, subst}
 use mathlib.Core.Logic.{◌⊎◌, inl, ⊎_elim}
 use native.Mathlib.Omega.{arith}
-use borrow.Author.Rules.{rules}
 use lib.IntN.{pos}
-use Rattle.whole.specs.Number.{Tells}
 use Rattle.pair.specs.declared.Pair.{Pair}
 use Rattle.pair.specs.Pairs.{pairs, plus, minus, negative, multiple, PartsWithin}
 use Rattle.pair.proofs.Parts.{wider, plus-within, minus-within, negative-within}
-use Rattle.divisor.specs.Promise.{KeptRoot, IsPairRoot}
+use Rattle.divisor.specs.Promise.{KeptRoot}
 use Rattle.join.specs.Promise.{Triple}
-use Rattle.join.specs.Steps.{shift, centre, Halved, CentreSizes, MiddleSizes, WritesTriples}
+use Rattle.join.specs.Steps.{shift, centre, Halved, CentreSizes, MiddleSizes}
 use Rattle.join.proofs.Centres.{signs_centred, centred_signs, halves-below}
 use Rattle.join.proofs.Sizes.{shift-within, root-within}
 use Rattle.join.proofs.Writing.{writes_none, writes_both, writes_as, writes_same}

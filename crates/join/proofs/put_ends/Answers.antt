@@ -1,12 +1,11 @@
 -- `join::put_ends` meets its contract: for −r the product has the other sign.
 use mathlib.Core.Path.{◌≡◌, sym, ap, ◌∙◌}
 use native.Mathlib.Omega.{arith}
-use borrow.Author.Rules.{rules}
 use lib.IntN.{pos}
 use Rattle.pair.specs.declared.Pair.{Pair}
 use Rattle.pair.specs.Pairs.{plus, minus, negative, times, multiple, PartsWithin}
 use Rattle.pair.proofs.Parts.{wider, times-within, plus-within, minus-within, negative-within}
-use Rattle.join.specs.Steps.{discriminant, Centred, root_reach, EndSizes}
+use Rattle.join.specs.Steps.{discriminant, Centred, EndSizes}
 use Rattle.join.proofs.Centres.{other_end, ends_below}
 use Rattle.join.proofs.Sizes.{product-within}
 use Rattle.join.proofs.Writing.{writes_both, writes_same}

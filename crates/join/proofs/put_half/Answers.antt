@@ -2,16 +2,13 @@
 use mathlib.Core.Path.{◌≡◌, refl, sym, ◌∙◌, subst}
 use Prim.Native.Nat.{◌-◌}
 use native.Mathlib.Omega.{arith}
-use borrow.Author.Rules.{rules}
 use borrow.Rule.Slice.PartMut.{mid_of, same_len_mid}
 use lib.IntN.{pos}
 use lib.ListN.{length, drop}
-use Rattle.whole.proofs.Flags.{told, untold}
 use Rattle.whole.proofs.Linear.{linear}
 use Rattle.pair.specs.declared.Pair.{Pair}
 use Rattle.pair.specs.Pairs.{multiple}
 use Rattle.pair.proofs.Laws.{multiple_cancel}
-use Rattle.divisor.specs.Promise.{IsOverWhole}
 use Rattle.divisor.proofs.Division.{undivided_none}
 use Rattle.join.specs.Promise.{Triple}
 use Rattle.join.specs.Steps.{triple, HalfSteps, Halved}

@@ -1,5 +1,4 @@
 -- `ask` meets its contract: by whether the state is reached, and has ended.
-use borrow.Author.Rules.{rules}
 use mathlib.Core.Path.{sym, subst, ap}
 use mathlib.Core.Bool.{true, not}
 use native.Mathlib.Omega.{arith}

@@ -1,5 +1,4 @@
 -- `end` meets its contract: by whether the state is reached.
-use borrow.Author.Rules.{rules}
 use mathlib.Core.Bool.{not}
 use mathlib.Core.Path.{sym, subst, ap}
 use Rattle.whole.proofs.Flags.{told, untold}

@@ -1,5 +1,4 @@
 -- `feed` meets its contract: by whether the state is reached, and has ended.
-use borrow.Author.Rules.{rules}
 use mathlib.Core.Bool.{not}
 use mathlib.Core.Path.{sym, ◌∙◌, subst, ap}
 use native.Mathlib.Omega.{arith}

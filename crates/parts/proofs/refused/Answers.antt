@@ -1,5 +1,4 @@
 -- `refused` meets its contract.
-use borrow.Author.Rules.{rules}
 use mathlib.Core.Path.{ap}
 use Rattle.refusal.specs.declared.Fault.{Fault}
 use Rattle.sheet.specs.declared.Change.TheVariants.{Refused}

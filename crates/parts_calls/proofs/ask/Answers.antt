@@ -1,5 +1,4 @@
 -- `ask` meets its contract: by the room, and by what the library tells.
-use borrow.Author.Rules.{rules}
 use mathlib.Core.Path.{refl, ap, ◌∙◌, subst}
 use mathlib.Core.Logic.{inl, inr}
 use native.Mathlib.Omega.{arith}

@@ -1,5 +1,4 @@
 -- `end` meets its contract: by the room, and by what the library tells of the ended state.
-use borrow.Author.Rules.{rules}
 use mathlib.Core.Path.{refl, sym, ap, ◌∙◌, subst}
 use mathlib.Core.Logic.{inl, inr}
 use mathlib.Core.Path.{◌≡◌}

@@ -1,5 +1,4 @@
 -- `signed` meets its contract: below 2^63 the number itself, from there on less 2^64.
-use borrow.Author.Rules.{rules}
 use mathlib.Core.Path.{sym, ◌∙◌}
 use Prim.Native.Nat.{◌-◌}
 use native.Mathlib.Omega.{arith}

@@ -1,5 +1,4 @@
 -- `state_in` meets its contract: number by number.
-use borrow.Author.Rules.{rules}
 use mathlib.Core.List.{[], ◌∷◌}
 use native.Mathlib.Omega.{arith}
 use lib.IntN.{pos}

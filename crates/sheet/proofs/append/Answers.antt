@@ -1,5 +1,4 @@
 -- `append` meets its contract: the sheet is walked, and a curve's record put where the records end, behind the header at least.
-use borrow.Author.Rules.{rules}
 use mathlib.Core.Path.{◌≡◌, sym, ◌∙◌, subst}
 use mathlib.Core.Bool.{true}
 use mathlib.Core.List.{List}

@@ -1,5 +1,4 @@
 -- `check` meets its contract: the walk counts the curves, and the header has the mission.
-use borrow.Author.Rules.{rules}
 use Rattle.sheet.proofs.Told.{check_sound, check-faulty}
 use Rattle.sheet.proofs.check.Goals as goal
 

@@ -1,5 +1,4 @@
 -- `erase` meets its contract.
-use borrow.Author.Rules.{rules}
 use Rattle.sheet.proofs.Changed.{erase-long, erase_short}
 use Rattle.sheet.proofs.erase.Goals as goal
 

@@ -1,9 +1,8 @@
 -- `erase_all` meets its contract. Invariant: the first i bytes are FF, the others as they were.
-use borrow.Author.Rules.{rules}
 use borrow.Author.Fill.{fill_none, fill_more}
 use mathlib.Core.Path.{◌≡◌, refl, ap, ◌∙◌}
 use mathlib.Core.List.{List, ◌++◌, append-nil}
-use Prim.Native.Nat.{ℕ, ◌-◌, ◌≤◌}
+use Prim.Native.Nat.{ℕ}
 use native.Mathlib.Omega.{arith}
 use lib.ListN.{length, drop, set, replicate, length-set}
 use lib.Seq.{drop-length}

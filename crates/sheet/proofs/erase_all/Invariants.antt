@@ -1,12 +1,8 @@
 -- What the loops of `erase_all` keep.
-use borrow.Author.Rules.{rules}
-use borrow.Author.Fill.{fill_none, fill_more}
-use mathlib.Core.Path.{◌≡◌, refl, ap, ◌∙◌}
-use mathlib.Core.List.{List, ◌++◌, append-nil}
-use Prim.Native.Nat.{ℕ, ◌-◌, ◌≤◌}
-use native.Mathlib.Omega.{arith}
-use lib.ListN.{length, drop, set, replicate, length-set}
-use lib.Seq.{drop-length}
+use mathlib.Core.Path.{◌≡◌}
+use mathlib.Core.List.{◌++◌}
+use Prim.Native.Nat.{◌-◌, ◌≤◌}
+use lib.ListN.{length, drop, replicate}
 use Rattle.record.specs.Records.{erased}
 use Rattle.sheet.proofs.erase_all.Given as goal
 

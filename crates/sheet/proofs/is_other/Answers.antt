@@ -1,5 +1,4 @@
 -- `is_other` meets its contract.
-use borrow.Author.Rules.{rules}
 use mathlib.Core.Path.{sym, ap}
 use Rattle.sheet.specs.Survey.{is_other}
 use Rattle.sheet.proofs.is_other.Goals as goal

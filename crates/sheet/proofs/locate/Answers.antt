@@ -1,10 +1,9 @@
 -- `locate` meets its contract: the walk remembers where the curve stands, and the mission is asked first.
-use borrow.Author.Rules.{rules}
 use mathlib.Core.Path.{◌≡◌, sym, ap, ◌∙◌}
 use mathlib.Core.Bool.{Bool}
 use Prim.Native.Nat.{ℕ}
 use Rattle.sheet.specs.declared.Mission.{Mission}
-use Rattle.sheet.specs.Survey.{survey, mission_of, is_other}
+use Rattle.sheet.specs.Survey.{is_other}
 use Rattle.sheet.proofs.Told.{forward, other_located, none_located, one_located, located_faulty}
 use Rattle.sheet.proofs.locate.Goals as goal
 

@@ -1,5 +1,4 @@
 -- `read` meets its contract: the curve's record is located, and its bytes hold the curve.
-use borrow.Author.Rules.{rules}
 use mathlib.Core.Path.{◌≡◌, subst}
 use mathlib.Core.List.{List}
 use Prim.Native.Nat.{ℕ, ◌-◌}

@@ -1,7 +1,6 @@
 -- `kinds::row_of` meets its contract: it is the table of the definitions, row by row.
 use mathlib.Core.Path.{sym, ap}
 use Rattle.record.specs.Kinds.{row_of}
-use borrow.Author.Rules.{rules}
 use Rattle.record.proofs.kinds.row_of.Goals as goal
 
 pub returns-in-Header : goal.returns-in-Header

@@ -6,7 +6,6 @@ use Rattle.refusal.specs.Answers.{if◌then◌else◌}
 use Rattle.record.specs.declared.kinds.Row.{Row}
 use Rattle.record.specs.Kinds.{words}
 use Rattle.record.proofs.Table.{row-known}
-use borrow.Author.Rules.{rules}
 use Rattle.record.proofs.kinds.words.Goals as goal
 
 pub overflow_sub-result : goal.overflow_sub-result

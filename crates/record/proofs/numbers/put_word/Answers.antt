@@ -1,5 +1,4 @@
 -- `numbers::put_word` meets its contract: four stores are one piece written.
-use borrow.Author.Rules.{rules}
 use native.Mathlib.Omega.{arith}
 use lib.ListN.{length-set}
 use Rattle.record.proofs.Pieces.{put_four}

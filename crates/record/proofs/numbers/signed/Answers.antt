@@ -1,5 +1,4 @@
 -- `numbers::signed` meets its contract.
-use borrow.Author.Rules.{rules}
 use Rattle.record.proofs.Signs.{moved-room, moved_back}
 use Rattle.record.proofs.numbers.signed.Goals as goal
 

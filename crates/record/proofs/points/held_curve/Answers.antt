@@ -1,5 +1,4 @@
 -- `points::held_curve` meets its contract: the name, the room, and then the points.
-use borrow.Author.Rules.{rules}
 use mathlib.Core.Path.{◌≡◌, sym, ap, ◌∙◌, subst}
 use mathlib.Core.Bool.{false≢true}
 use mathlib.Core.List.{List}

@@ -1,5 +1,4 @@
 -- `points::held_in` meets its contract: each kind has its own form.
-use borrow.Author.Rules.{rules}
 use mathlib.Core.Path.{ap, ◌∙◌}
 use Rattle.record.specs.declared.kinds.Kind.{Kind}
 use Rattle.record.specs.Kinds.{row_of}

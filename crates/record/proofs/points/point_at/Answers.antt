@@ -1,5 +1,4 @@
 -- `points::point_at` meets its contract.
-use borrow.Author.Rules.{rules}
 use mathlib.Core.Path.{ap, ◌∙◌}
 use Rattle.record.specs.Numbers.{signed_of}
 use Rattle.record.proofs.Signs.{settled}

@@ -1,5 +1,4 @@
 -- `walks::quintic_in` meets its contract: the points are those of the record, one by one.
-use borrow.Author.Rules.{rules}
 use mathlib.Core.Path.{◌≡◌}
 use mathlib.Core.List.{[], ◌∷◌}
 use Prim.Native.Nat.{◌-◌, ◌/◌}

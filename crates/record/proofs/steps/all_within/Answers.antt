@@ -1,15 +1,12 @@
 -- `steps::all_within` meets its contract. Invariant: what was seen and what is left of the coordinates decide the whole.
 use borrow.Author.Rules.{rules}
-use mathlib.Core.Path.{◌≡◌, refl, ap, ◌∙◌, sym}
-use mathlib.Core.Bool.{◌&&◌}
-use Prim.Native.Nat.{ℕ, ◌+◌, ◌*◌, ◌≤◌}
+use mathlib.Core.Path.{refl, ap, ◌∙◌, sym}
+use Prim.Native.Nat.{ℕ}
 use native.Mathlib.Omega.{arith}
 use lib.Dec.{leb}
 use lib.IntN.{nat_abs}
-use lib.ListN.{length}
 use Rattle.curve.specs.Sizes.{coordinate_reach}
-use Rattle.record.specs.Numbers.{signed_of, coordinates}
-use Rattle.record.specs.Records.{all_within}
+use Rattle.record.specs.Numbers.{signed_of}
 use Rattle.record.proofs.Signs.{word-within, word_outside}
 use Rattle.record.proofs.Loops.{within_none, within_fail, within_pass}
 use Rattle.record.proofs.steps.all_within.Goals as goal

@@ -1,10 +1,7 @@
 -- `steps::erased_bytes` meets its contract. Invariant: i and the erased bytes from i on are the erased bytes of the whole.
 use borrow.Author.Rules.{rules}
-use mathlib.Core.Path.{◌≡◌, ◌∙◌}
-use Prim.Native.Nat.{◌+◌, ◌-◌, ◌≤◌}
+use mathlib.Core.Path.{◌∙◌}
 use native.Mathlib.Omega.{arith}
-use lib.ListN.{length, drop}
-use Rattle.record.specs.Records.{erased_bytes}
 use Rattle.record.proofs.Loops.{erased-all, erased_stop, erased-more}
 use Rattle.record.proofs.steps.erased_bytes.Goals as goal
 

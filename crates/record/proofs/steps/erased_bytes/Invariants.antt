@@ -1,11 +1,8 @@
 -- What the loops of `steps::erased_bytes` keep.
-use borrow.Author.Rules.{rules}
-use mathlib.Core.Path.{◌≡◌, ◌∙◌}
+use mathlib.Core.Path.{◌≡◌}
 use Prim.Native.Nat.{◌+◌, ◌-◌, ◌≤◌}
-use native.Mathlib.Omega.{arith}
 use lib.ListN.{length, drop}
 use Rattle.record.specs.Records.{erased_bytes}
-use Rattle.record.proofs.Loops.{erased-all, erased_stop, erased-more}
 use Rattle.record.proofs.steps.erased_bytes.Given as goal
 
 abbrev pub invariant-loop-i : goal.invariant-loop-i

@@ -1,5 +1,4 @@
 -- `steps::headless_step` meets its contract: its tests are those of the definition, in the same order. Without its head a known kind has a wrong length.
-use borrow.Author.Rules.{rules}
 use borrow.Author.Tests.{eq-eqb, ne_eqb, lt-ltb, le-ltb}
 use mathlib.Core.Path.{sym, ◌∙◌}
 use Rattle.refusal.specs.Answers.{if◌then◌else◌}

@@ -3,7 +3,6 @@ use mathlib.Core.Path.{sym, ap}
 use borrow.Author.Tests.{eq-eqb, ne_eqb}
 use Rattle.record.specs.declared.kinds.Row.{Row}
 use Rattle.record.specs.Records.{named}
-use borrow.Author.Rules.{rules}
 use Rattle.record.proofs.steps.is_named.Goals as goal
 
 pub returns-then-rest-name : goal.returns-then-rest-name

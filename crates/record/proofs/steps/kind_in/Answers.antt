@@ -2,7 +2,6 @@
 use mathlib.Core.Path.{sym, ◌∙◌}
 use Rattle.refusal.specs.Answers.{if◌then◌else◌}
 use Rattle.record.specs.Records.{kind_in}
-use borrow.Author.Rules.{rules}
 use Rattle.record.proofs.steps.kind_in.Goals as goal
 
 pub returns-then-is_named : goal.returns-then-is_named

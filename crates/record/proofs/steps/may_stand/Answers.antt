@@ -1,5 +1,4 @@
 -- `steps::may_stand` meets its contract: the row tells.
-use borrow.Author.Rules.{rules}
 use mathlib.Core.Path.{ap}
 use mathlib.Core.Bool.{not}
 use Rattle.refusal.specs.Answers.{if◌then◌else◌}

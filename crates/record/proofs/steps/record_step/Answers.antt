@@ -1,5 +1,4 @@
 -- `steps::record_step` meets its contract: behind a kind's head, its tests are the last ones of the definition.
-use borrow.Author.Rules.{rules}
 use borrow.Author.Tests.{eq-eqb, lt-ltb, le-ltb}
 use mathlib.Core.Path.{◌≡◌, sym, ap, ◌∙◌}
 use mathlib.Core.Bool.{Bool, true, false}
@@ -13,7 +12,6 @@ use Rattle.refusal.specs.declared.Refusal.TheVariants as refusal
 use Rattle.refusal.specs.Answers.{if◌then◌else◌}
 use Rattle.record.specs.declared.kinds.Kind.{Kind}
 use Rattle.record.specs.declared.kinds.Row.{Row}
-use Rattle.record.specs.declared.steps.Step.{Step}
 use Rattle.record.specs.declared.steps.Step.TheVariants.{Fault, Record}
 use Rattle.record.specs.Numbers.{size_of, coordinates}
 use Rattle.record.specs.Kinds.{row_of, words as words_of}

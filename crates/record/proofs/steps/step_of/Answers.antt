@@ -1,5 +1,4 @@
 -- `steps::step_of` meets its contract: it is that of the function it goes by.
-use borrow.Author.Rules.{rules}
 use mathlib.Core.Path.{sym, ap, ◌∙◌}
 use mathlib.Core.Bool.{Bool}
 use Rattle.record.specs.Records.{step_of}

@@ -12,7 +12,6 @@ use mir.Syntax.{w64}
 use mir.Val.{to_z, of_z}
 use mir.ValLaws.{to_z-of_z}
 use Rattle.curve.specs.Sizes.{coordinate_reach}
-use Rattle.record.specs.Records.{all_within}
 use Rattle.record.proofs.Loops.{numbers-none, numbers_fail, numbers_pass}
 use Rattle.record.proofs.writes.numbers_within.Goals as goal
 

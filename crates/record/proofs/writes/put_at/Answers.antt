@@ -1,18 +1,14 @@
 -- `writes::put_at` meets its contract: the tests, and then the record over a part of its own length.
-use borrow.Author.Rules.{rules}
 use mathlib.Core.Path.{◌≡◌, sym, ap, ◌∙◌}
-use mathlib.Core.Bool.{Bool, true}
 use mathlib.Core.List.{List}
 use Prim.Native.Nat.{ℕ, ◌+◌, ◌-◌, ◌≤◌, ◌<◌}
 use native.Mathlib.Omega.{arith}
-use lib.IntN.{ℤ}
 use lib.ListN.{length, take, drop, length-drop}
 use lib.Seq.{length-take-le}
 use Rattle.record.specs.declared.kinds.Kind.{Kind}
 use Rattle.record.specs.declared.kinds.Row.{Row}
 use Rattle.record.specs.Numbers.{written}
 use Rattle.record.specs.Kinds.{row_of}
-use Rattle.record.specs.Records.{all_within}
 use Rattle.record.proofs.Table.{row-known}
 use Rattle.record.proofs.Putting.{put_back, at_range, at_room, at_done}
 use Rattle.record.proofs.writes.put_at.Goals as goal

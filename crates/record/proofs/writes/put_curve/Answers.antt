@@ -1,5 +1,4 @@
 -- `writes::put_curve` meets its contract: each kind of curve by its own numbers.
-use borrow.Author.Rules.{rules}
 use Rattle.curve.specs.declared.Curve.TheVariants as form
 use Rattle.record.proofs.Putting.{of_curve}
 use Rattle.record.proofs.writes.put_curve.Goals as goal

@@ -1,5 +1,4 @@
 -- `writes::put_head` meets its contract: the bytes of the head's word are the head's.
-use borrow.Author.Rules.{rules}
 use mathlib.Core.Path.{ap, ◌∙◌}
 use native.Mathlib.Omega.{arith}
 use Prim.Native.Nat.{ℕ}

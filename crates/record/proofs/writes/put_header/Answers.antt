@@ -1,5 +1,4 @@
 -- `writes::put_header` meets its contract: the head, and the two bytes of the number behind it.
-use borrow.Author.Rules.{rules}
 use mathlib.Core.Path.{◌≡◌, refl, ap, ◌∙◌}
 use mathlib.Core.List.{List, [], ◌∷◌}
 use Prim.Native.Nat.{ℕ, ◌/◌, ◌%◌}

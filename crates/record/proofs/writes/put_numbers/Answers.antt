@@ -1,12 +1,11 @@
 -- `writes::put_numbers` meets its contract. Invariant: behind the head, the first i numbers are written.
-use borrow.Author.Rules.{rules}
 use mathlib.Core.Bool.{true}
 use mathlib.Core.List.{List}
 use mathlib.Core.Path.{◌≡◌, refl, sym, ap, ◌∙◌, subst}
-use Prim.Native.Nat.{ℕ, ◌+◌, ◌-◌, ◌*◌, ◌≤◌, ◌<◌}
+use Prim.Native.Nat.{ℕ, ◌<◌}
 use native.Mathlib.Omega.{arith}
 use lib.IntN.{ℤ, pos}
-use lib.ListN.{length, take, get_or}
+use lib.ListN.{length, get_or}
 use mir.Syntax.{w64}
 use mir.Val.{to_z, of_z}
 use mir.ValLaws.{to_z-of_z}
@@ -14,7 +13,7 @@ use Rattle.whole.specs.Number.{Within}
 use Rattle.whole.proofs.Bound.{fits_within}
 use lib.Dec.{lit<}
 use Rattle.curve.specs.Sizes.{coordinate_reach}
-use Rattle.record.specs.Numbers.{bits as bits_of, word_bytes, encoded}
+use Rattle.record.specs.Numbers.{bits as bits_of, word_bytes}
 use Rattle.record.specs.Numbers.{written}
 use Rattle.record.specs.Records.{all_within}
 use Rattle.record.proofs.Loops.{numbers-at}

@@ -1,5 +1,4 @@
 -- `walks::walk` meets its contract. Invariant: where the walk stands (`Passed`).
-use borrow.Author.Rules.{rules}
 use mathlib.Core.Path.{◌≡◌, sym, ap, ◌∙◌, subst}
 use mathlib.Core.Bool.{Bool, true, false}
 use mathlib.Core.List.{List}

@@ -1,11 +1,7 @@
 -- `front::bytes_of` meets its contract. Invariant: the bytes of the first i words are written.
-use borrow.Author.Rules.{rules}
-use mathlib.Core.Path.{◌≡◌, refl, ◌∙◌}
-use Prim.Native.Nat.{◌-◌, ◌≤◌}
+use mathlib.Core.Path.{refl, ◌∙◌}
 use native.Mathlib.Omega.{arith}
-use lib.ListN.{length, take, replicate}
-use Rattle.record.specs.Numbers.{written}
-use Rattle.states.specs.Words.{unpacked}
+use lib.ListN.{replicate}
 use Rattle.states.proofs.Pieces.{unpacked-more, unpacked-all}
 use Rattle.states.proofs.front.bytes_of.Goals as goal
 

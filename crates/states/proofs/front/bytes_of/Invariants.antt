@@ -1,12 +1,9 @@
 -- What the loops of `front::bytes_of` keep.
-use borrow.Author.Rules.{rules}
-use mathlib.Core.Path.{◌≡◌, refl, ◌∙◌}
+use mathlib.Core.Path.{◌≡◌}
 use Prim.Native.Nat.{◌-◌, ◌≤◌}
-use native.Mathlib.Omega.{arith}
-use lib.ListN.{length, take, replicate}
+use lib.ListN.{length, take}
 use Rattle.record.specs.Numbers.{written}
 use Rattle.states.specs.Words.{unpacked}
-use Rattle.states.proofs.Pieces.{unpacked-more, unpacked-all}
 use Rattle.states.proofs.front.bytes_of.Given as goal
 
 abbrev pub invariant-loop-i : goal.invariant-loop-i

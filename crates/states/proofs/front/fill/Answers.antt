@@ -1,10 +1,9 @@
 -- `front::fill` meets its contract. Invariant: the first i bytes of the part, and then what was there from i on.
-use borrow.Author.Rules.{rules}
 use mathlib.Core.Path.{◌≡◌, refl, ap, ◌∙◌}
-use mathlib.Core.List.{List, ◌++◌}
-use Prim.Native.Nat.{ℕ, ◌≤◌, ◌-◌, min}
+use mathlib.Core.List.{List}
+use Prim.Native.Nat.{ℕ}
 use native.Mathlib.Omega.{arith}
-use lib.ListN.{length, drop, take, set, get_or, length-set}
+use lib.ListN.{set, get_or, length-set}
 use Rattle.whole.proofs.Fill.{put-more}
 use Rattle.states.proofs.Pieces.{filled}
 use Rattle.states.proofs.front.fill.Goals as goal

@@ -1,12 +1,8 @@
 -- What the loops of `front::fill` keep.
-use borrow.Author.Rules.{rules}
-use mathlib.Core.Path.{◌≡◌, refl, ap, ◌∙◌}
-use mathlib.Core.List.{List, ◌++◌}
-use Prim.Native.Nat.{ℕ, ◌≤◌, ◌-◌, min}
-use native.Mathlib.Omega.{arith}
-use lib.ListN.{length, drop, take, set, get_or, length-set}
-use Rattle.whole.proofs.Fill.{put-more}
-use Rattle.states.proofs.Pieces.{filled}
+use mathlib.Core.Path.{◌≡◌}
+use mathlib.Core.List.{◌++◌}
+use Prim.Native.Nat.{◌≤◌, ◌-◌, min}
+use lib.ListN.{length, drop, take}
 use Rattle.states.proofs.front.fill.Given as goal
 
 abbrev pub invariant-loop-i : goal.invariant-loop-i

@@ -1,5 +1,4 @@
 -- `front::front_words` meets its contract: the bytes over zeros, and their words.
-use borrow.Author.Rules.{rules}
 use mathlib.Core.Path.{sym, ◌∙◌}
 use Rattle.states.proofs.Pieces.{padded-long, packed-padded}
 use Rattle.states.proofs.front.front_words.Goals as goal

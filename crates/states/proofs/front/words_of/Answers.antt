@@ -1,5 +1,4 @@
 -- `front::words_of` meets its contract: word by word.
-use borrow.Author.Rules.{rules}
 use mathlib.Core.List.{[], ◌∷◌}
 use Rattle.record.specs.Numbers.{words_in}
 use Rattle.states.proofs.front.words_of.Goals as goal

@@ -1,5 +1,4 @@
 -- `going::after_records` meets its contract: each number of the state by what the walk finds.
-use borrow.Author.Rules.{rules}
 use mathlib.Core.Path.{◌≡◌, ap, ◌∙◌}
 use mathlib.Core.Bool.{false}
 use mathlib.Core.List.{List}

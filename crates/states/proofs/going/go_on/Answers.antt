@@ -1,5 +1,4 @@
 -- `going::go_on` meets its contract: by how many bytes there are.
-use borrow.Author.Rules.{rules}
 use Prim.Native.Nat.{◌+◌}
 use native.Mathlib.Omega.{arith}
 use lib.ListN.{length}

@@ -1,5 +1,4 @@
 -- `going::mission_of` meets its contract: by whether there is a record.
-use borrow.Author.Rules.{rules}
 use borrow.Author.Tests.{eq-eqb, ne_eqb}
 use Rattle.refusal.specs.Answers.{if◌then◌else◌}
 use Rattle.states.proofs.going.mission_of.Goals as goal

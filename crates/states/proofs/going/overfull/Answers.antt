@@ -1,5 +1,4 @@
 -- `going::overfull` meets its contract.
-use borrow.Author.Rules.{rules}
 use mathlib.Core.Path.{refl}
 use Rattle.record.specs.Numbers.{words_in}
 use Rattle.states.proofs.going.overfull.Goals as goal

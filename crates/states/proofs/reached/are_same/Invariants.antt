@@ -1,12 +1,7 @@
 -- What the loops of `reached::are_same` keep.
-use borrow.Author.Rules.{rules}
-use mathlib.Core.Path.{◌≡◌, sym, ap, ◌∙◌, subst}
-use mathlib.Core.List.{List}
-use Prim.Native.Nat.{ℕ, suc, ◌-◌, ◌<◌}
-use native.Mathlib.Omega.{arith}
+use mathlib.Core.Path.{◌≡◌}
+use Prim.Native.Nat.{ℕ, ◌-◌, ◌<◌}
 use lib.ListN.{get_or}
-use lib.Seq.{ext_get_or}
-use Rattle.refusal.proofs.Answers.{by_order}
 use Rattle.states.proofs.reached.are_same.Given as goal
 
 abbrev pub invariant-loop-i : goal.invariant-loop-i

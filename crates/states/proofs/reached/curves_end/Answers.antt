@@ -1,5 +1,4 @@
 -- `reached::curves_end` meets its contract: what is left of the bytes beyond cubics is a number of sixteens, one for each quintic.
-use borrow.Author.Rules.{rules}
 use mathlib.Core.Path.{◌≡◌, ap, ◌∙◌}
 use Prim.Native.Nat.{ℕ, ◌-◌, ◌*◌, ◌/◌, ◌%◌, ◌≤◌}
 use native.Mathlib.Nat.{mul-mod_left}

@@ -1,5 +1,4 @@
 -- `reached::is_overfull` meets its contract: field by field.
-use borrow.Author.Rules.{rules}
 use mathlib.Core.Path.{ap}
 use Rattle.whole.proofs.Flags.{told-map}
 use Rattle.record.specs.Numbers.{words_in}

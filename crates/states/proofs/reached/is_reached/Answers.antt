@@ -1,5 +1,4 @@
 -- `reached::is_reached` meets its contract: a state is reached where its numbers are possible.
-use borrow.Author.Rules.{rules}
 use mathlib.Core.Path.{subst}
 use mathlib.Core.Logic.{◌⊎◌, inl, inr}
 use Prim.Native.Nat.{◌≤◌}

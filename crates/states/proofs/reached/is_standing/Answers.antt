@@ -1,5 +1,4 @@
 -- `reached::is_standing` meets its contract: test by test.
-use borrow.Author.Rules.{rules}
 use mathlib.Core.Bool.{not}
 use mathlib.Core.Path.{ap}
 use native.Mathlib.Omega.{arith}
