@@ -1,7 +1,6 @@
 -- `put_totals` meets its contract: the lines one after another.
 use mathlib.Core.Path.{◌∙◌}
 use Rattle.text.proofs.Pieces.{◌then◌}
-use borrow.Author.Rules.{rules}
 use Rattle.totals_text.proofs.put_totals.Goals as goal
 
 pub shape_of-area : goal.shape_of-area

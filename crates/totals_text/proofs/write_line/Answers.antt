@@ -2,7 +2,6 @@
 use mathlib.Core.Path.{refl, ◌∙◌}
 use Rattle.text.proofs.Pieces.{◌then◌}
 use Rattle.text.proofs.Held.{text_in}
-use borrow.Author.Rules.{rules}
 use Rattle.totals_text.proofs.write_line.Goals as goal
 
 pub returns : goal.returns

@@ -1,7 +1,6 @@
 -- `write_totals` meets its contract: the lines, ended.
 use mathlib.Core.Path.{refl}
 use Rattle.text.proofs.Held.{text_in}
-use borrow.Author.Rules.{rules}
 use Rattle.totals_text.proofs.write_totals.Goals as goal
 
 pub returns : goal.returns

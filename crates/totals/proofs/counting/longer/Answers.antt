@@ -2,7 +2,6 @@
 use mathlib.Core.Path.{sym, ap₂, ◌∙◌}
 use Rattle.totals.specs.Totals.{longer}
 use Rattle.totals.proofs.Lists.{longer-first, longer-second}
-use borrow.Author.Rules.{rules}
 use Rattle.totals.proofs.counting.longer.Goals as goal
 
 pub returns-in-None-second : goal.returns-in-None-second

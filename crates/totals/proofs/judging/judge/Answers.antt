@@ -10,7 +10,6 @@ use Rattle.curve.specs.Curves.{points_of, InRange}
 use Rattle.verdict.specs.declared.Verdict.{Verdict}
 use Rattle.verdict.specs.declared.Verdict.TheVariants as verdicts
 use Rattle.verdict.specs.Promise.{Recognised}
-use borrow.Author.Rules.{rules}
 use Rattle.totals.proofs.judging.judge.Goals as goal
 
 -- what was recognised, by its case

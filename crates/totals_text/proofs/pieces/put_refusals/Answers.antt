@@ -1,7 +1,6 @@
 -- `pieces::put_refusals` meets its contract: a line for each number.
 use mathlib.Core.Path.{◌∙◌}
 use Rattle.text.proofs.Pieces.{◌then◌}
-use borrow.Author.Rules.{rules}
 use Rattle.totals_text.proofs.pieces.put_refusals.Goals as goal
 
 pub shape_of-area : goal.shape_of-area

@@ -4,7 +4,6 @@ use Rattle.text.proofs.Pieces.{◌then◌, writes_same}
 use Rattle.sheet.specs.declared.Checked.{Checked}
 use Rattle.sheet.specs.Promise.{answer_of_checked}
 use Rattle.totals_text.specs.Texts.{said}
-use borrow.Author.Rules.{rules}
 use Rattle.totals_text.proofs.pieces.put_said.Goals as goal
 
 pub returns-in-Sheet : goal.returns-in-Sheet
