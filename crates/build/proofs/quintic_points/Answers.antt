@@ -33,8 +33,5 @@ next-p5-requires c = (wider (omega arith) (p4_within c), search rules, search ru
 
 pub returns : goal.returns
 returns c =
-    let c4 = c in
-    let c3 = c4 in
-    let c2 = c3 in
-    points_on _ _ c2.next-p1.ensures.is
-    (points_on _ _ c2.next-p2.ensures.is (points_on _ _ c3.sum-p3.ensures (points_on _ _ c4.next-p4.ensures.is (points_on _ _ c.next-p5.ensures.is points-end))))
+    points_on _ _ c.next-p1.ensures.is
+    (points_on _ _ c.next-p2.ensures.is (points_on _ _ c.sum-p3.ensures (points_on _ _ c.next-p4.ensures.is (points_on _ _ c.next-p5.ensures.is points-end))))

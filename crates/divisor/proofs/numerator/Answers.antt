@@ -6,15 +6,9 @@ use Rattle.whole.proofs.Wholes.{readℤ, ringℤ}
 use Rattle.whole.proofs.Bound.{Bounded, bounds, fits, kept}
 use Rattle.pair.proofs.Parts.{parts_two, pair-equal}
 use Rattle.divisor.proofs.numerator.Goals as goal
-use Rattle.divisor.proofs.numerator.Lts as at
-use Rattle.divisor.proofs.numerator.Reads as reads
 
-module _ (c : goal.After-struct_told-4-1) where
-  abbrev s : at.Start reads.Pre reads.Post
-  s = c.before.before.before.before
-
-  sizes : Bounded (2 ^ 40 ∷ 2 ^ 40 ∷ 2 ^ 20 ∷ 2 ^ 20 ∷ []) (s.args.a.re ∷ s.args.a.im ∷ s.args.b.re ∷ s.args.b.im ∷ [])
-  sizes = parts_two s.requires.0 s.requires.1
+sizes : (c : goal.After-struct_told-4-1) → Bounded (2 ^ 40 ∷ 2 ^ 40 ∷ 2 ^ 20 ∷ 2 ^ 20 ∷ []) (c.args.a.re ∷ c.args.a.im ∷ c.args.b.re ∷ c.args.b.im ∷ [])
+sizes c = parts_two c.requires.0 c.requires.1
 
 pub overflow_mul-result : goal.overflow_mul-result
 overflow_mul-result c = bounds (sizes c) (λ ρ e k. simp (e 0, e 2, readℤ, kept k) (fits k _ refl))

@@ -21,13 +21,9 @@ d-is : (c : goal.After-norm) → to_z w64 (of_z w64 c.norm.result) ≡ norm c.ar
 d-is c = to_z-of_z w64 _ (search rules) ∙ c.norm.ensures
 
 pub over_whole-requires : goal.over_whole-requires
-over_whole-requires c =
-    let s = c in
-    subst (λ (x : ℤ). pos 0 <ℤ x) (sym (d-is c)) (norm_some s.args.b s.requires.2)
+over_whole-requires c = subst (λ (x : ℤ). pos 0 <ℤ x) (sym (d-is c)) (norm_some c.args.b c.requires.2)
 
 pub returns : goal.returns
 returns c =
-    let d = c.before in
-    let s = d in
-    over-norm s.args.a s.args.b s.requires.2 c.over_whole.result
-    (subst (λ X. X) (λ i. IsOverWhole (d.numerator.ensures i) (d-is d i) c.over_whole.result) c.over_whole.ensures)
+    over-norm c.args.a c.args.b c.requires.2 c.over_whole.result
+    (subst (λ X. X) (λ i. IsOverWhole (c.numerator.ensures i) (d-is c.before i) c.over_whole.result) c.over_whole.ensures)

@@ -7,7 +7,6 @@ use lib.IntN.{ℤ, pos, nat_abs}
 use mir.Syntax.{w64}
 use mir.Val.{SFits, to_z, of_z}
 use mir.ValLaws.{to_z-of_z}
-use Rattle.whole.proofs.Flags.{untold}
 use Rattle.whole.proofs.Integers.{abs_times}
 use Rattle.whole.proofs.Order.{nonneg_is}
 use Rattle.whole.proofs.Machine.{cast_asks}
@@ -36,7 +35,7 @@ overflow_cast-squared c =
 
 pub returns-then-not-ends_as_a_square : goal.returns-then-not-ends_as_a_square
 returns-then-not-ends_as_a_square c w h =
-    no_end (untold c.ends_as_a_square.result c.ends_as_a_square.ensures c.if-not-ends_as_a_square.true-raw) (nat_abs (norm w)) (squared c.args.z c.norm-squared.ensures (search rules) w h)
+    no_end c.if-not-ends_as_a_square.ensures (nat_abs (norm w)) (squared c.args.z c.norm-squared.ensures (search rules) w h)
 
 pub returns-then-size-ne0 : goal.returns-then-size-ne0
 returns-then-size-ne0 c w h =

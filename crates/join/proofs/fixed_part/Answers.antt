@@ -13,14 +13,10 @@ multiple-requires-2 c =
 
 pub difference-requires : goal.difference-requires
 difference-requires c =
-    let s = c in
-    let p = s.requires in (
-      rw s.multiple.ensures (wider (omega arith) (multiple-within 24 p.travel)),
-      rw (c.multiple-2.ensures, s.sum.ensures) (wider (omega arith) (multiple-within 15 (plus-within p.first p.last))),
+    let p = c.requires in (
+      rw c.multiple.ensures (wider (omega arith) (multiple-within 24 p.travel)),
+      rw (c.multiple-2.ensures, c.sum.ensures) (wider (omega arith) (multiple-within 15 (plus-within p.first p.last))),
     )
 
 pub returns : goal.returns
-returns c =
-    let m = c in
-    let s = m in
-    c.difference.ensures ∙ ap₂ minus s.multiple.ensures (m.multiple-2.ensures ∙ ap (multiple (pos 15)) s.sum.ensures)
+returns c = c.difference.ensures ∙ ap₂ minus c.multiple.ensures (c.multiple-2.ensures ∙ ap (multiple (pos 15)) c.sum.ensures)

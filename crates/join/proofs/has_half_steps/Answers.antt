@@ -1,14 +1,14 @@
 -- `join::has_half_steps` meets its contract.
-use mathlib.Core.Path.{subst}
+use mathlib.Core.Path.{sym, subst}
 use Prim.Native.Nat.{◌^◌}
 use native.Mathlib.Omega.{arith}
 use borrow.Author.Rules.{rules}
 use Rattle.whole.specs.Number.{Tells}
-use Rattle.whole.proofs.Flags.{told, untold, told-map}
+use Rattle.whole.proofs.Flags.{told-map}
 use Rattle.pair.specs.declared.Pair.{Pair}
 use Rattle.pair.specs.Pairs.{PartsWithin}
 use Rattle.pair.proofs.Parts.{wider}
-use Rattle.join.specs.Steps.{Even}
+use Rattle.join.specs.Steps.{Even, MiddleSizes}
 use Rattle.join.proofs.has_half_steps.Goals as goal
 
 -- sizes are found for whichever pairs are meant
@@ -17,21 +17,19 @@ record Wide (w0 v w2 : Pair) : Type 0 where
   middle : PartsWithin (2 ^ 30) v
   last : PartsWithin (2 ^ 30) w2
 
-wide : (c : goal.Start) → Wide c.args.w0 c.args.v c.args.w2
-wide c = let p = c.requires in record { first = wider (omega arith) p.first; middle = wider (omega arith) p.middle; last = wider (omega arith) p.last }
+wide : {w0 v w2 : Pair} → MiddleSizes w0 v w2 → Wide w0 v w2
+wide p = record { first = wider (omega arith) p.first; middle = wider (omega arith) p.middle; last = wider (omega arith) p.last }
 
 pub product-requires : goal.product-requires
-product-requires c = let s = wide c in (search rules, search rules)
+product-requires c = let s = wide c.requires in (search rules, search rules)
 
 pub returns-then-not-is_even : goal.returns-then-not-is_even
-returns-then-not-is_even c h = let t = c in untold t.is_even.result (subst (λ (x : Pair). Tells (Even x) t.is_even.result) t.product.ensures t.is_even.ensures) c.if-not-is_even.true-raw h.0
+returns-then-not-is_even c h = c.if-not-is_even.ensures (subst Even (sym c.product.ensures) h.0)
 
 pub product-requires-2 : goal.product-requires-2
-product-requires-2 c = let s = wide c.before.before.before in (search rules, search rules)
+product-requires-2 c = let s = wide c.requires in (search rules, search rules)
 
 pub returns : goal.returns
 returns c =
-    let p = c in
-    let t = p in
-    let first = told t.is_even.result (subst (λ (x : Pair). Tells (Even x) t.is_even.result) t.product.ensures t.is_even.ensures) p.if-not-is_even.false-raw in
-    told-map (λ h. (first, h)) (λ h. h.1) c.is_even-2.result (subst (λ (x : Pair). Tells (Even x) c.is_even-2.result) p.product-2.ensures c.is_even-2.ensures)
+    let first = subst Even c.product.ensures c.if-not-is_even.ensures in
+    told-map (λ h. (first, h)) (λ h. h.1) c.is_even-2.result (subst (λ (x : Pair). Tells (Even x) c.is_even-2.result) c.product-2.ensures c.is_even-2.ensures)

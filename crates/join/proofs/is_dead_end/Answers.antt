@@ -1,5 +1,4 @@
 -- `join::is_dead_end` meets its contract.
-use mathlib.Core.Path.{subst}
 use mathlib.Core.Bool.{Bool, true, false}
 use mathlib.Core.Logic.{◌⊎◌, inl, inr, ⊎_elim}
 use Rattle.whole.specs.Number.{Tells}
@@ -11,7 +10,7 @@ either Q true n h = inr h
 either Q false n h = ⊎_elim n h
 
 pub returns-then-is_zero : goal.returns-then-is_zero
-returns-then-is_zero c = inl (subst (Tells _) c.if-is_zero.true c.is_zero.ensures)
+returns-then-is_zero c = inl c.if-is_zero.ensures
 
 pub returns : goal.returns
-returns c = either _ c.is_zero-2.result (subst (Tells _) c.if-is_zero.false c.is_zero.ensures) c.is_zero-2.ensures
+returns c = either _ c.is_zero-2.result c.if-is_zero.ensures c.is_zero-2.ensures

@@ -11,19 +11,14 @@ use mir.Val.{SFits, to_z, of_z}
 use mir.ValLaws.{to_z-of_z}
 use Rattle.join.specs.Promise.{numbers}
 use Rattle.join.proofs.put.Goals as goal
-use Rattle.join.proofs.put.Lts as at
-use Rattle.join.proofs.put.Reads as reads
 
 module _ (c : goal.After-struct_told-6-1) where
-  abbrev s : at.Start reads.Pre reads.Post
-  s = c.before.before.before.before.before.before
-
   abbrev bits : ℤ → ℤ
   bits x = to_z w64 (of_z w64 x)
 
   -- the six numbers, as the machine reads them back
   abbrev six : List ℤ
-  six = bits s.args.w0.re ∷ bits s.args.w0.im ∷ bits s.args.v.re ∷ bits s.args.v.im ∷ bits s.args.w2.re ∷ bits s.args.w2.im ∷ []
+  six = bits c.args.w0.re ∷ bits c.args.w0.im ∷ bits c.args.v.re ∷ bits c.args.v.im ∷ bits c.args.w2.re ∷ bits c.args.w2.im ∷ []
 
 pub bounds-area-1 : goal.bounds-area-1
 bounds-area-1 c = simp length-set (omega arith)
@@ -43,7 +38,7 @@ shape_of-area c = simp length-set
 pub returns : goal.returns
 unfolding numbers
 returns c =
-    let w = (s c).args in
+    let w = c.args in
     let f : SFits w64 w.w0.re = search rules in
     let g : SFits w64 w.w0.im = search rules in
     let h : SFits w64 w.v.re = search rules in

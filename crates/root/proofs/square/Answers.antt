@@ -7,18 +7,13 @@ use Rattle.root.specs.declared.Quartic.{Quartic}
 use Rattle.root.specs.Promise.{IsSquare, root_size}
 use Rattle.root.proofs.Squared.{square_is}
 use Rattle.root.proofs.square.Goals as goal
-use Rattle.root.proofs.square.Lts as at
-use Rattle.root.proofs.square.Reads as reads
 
 module _ (c : goal.After-struct_told-5-1) where
-  abbrev o : at.Start reads.Pre reads.Post
-  o = c.before.before.before.before.before
-
   abbrev q : Quartic
-  q = o.args.q
+  q = c.args.q
 
   sizes : Bounded (root_size ∷ root_size ∷ root_size ∷ root_size ∷ root_size ∷ []) (q.q0 ∷ q.q1 ∷ q.q2 ∷ q.q3 ∷ q.q4 ∷ [])
-  sizes = o.requires 0 ▸ o.requires 1 ▸ o.requires 2 ▸ o.requires 3 ▸ o.requires 4 ▸ done
+  sizes = c.requires 0 ▸ c.requires 1 ▸ c.requires 2 ▸ c.requires 3 ▸ c.requires 4 ▸ done
 
 pub overflow_mul-d0 : goal.overflow_mul-d0
 overflow_mul-d0 c = bounds (sizes c) (λ ρ e k. simp (e 0, readℤ, read_pos ρ 2, kept k) (fits k _ refl))
