@@ -49,7 +49,8 @@ fn count(x: Turning) -> u8
     if ac < 0 {
         return 1;
     }
-    if b * (a + c) >= 0 {
+    let level = b * (a + c) >= 0;
+    if level {
         return 0;
     }
     if ac == 0 {

@@ -41,20 +41,20 @@ below c =
     bounds (sizes c.before)
     (λ ρ e k. let t = simp (e 0, e 1, e 2, readℤ, kept k) at c.if-ac-lt0.true in simp (e 0, e 1, e 2, readℤ) (omega linear))
 
-not-below : (c : goal.Else-ac-lt0) → pos 0 ≤ℤ ac c.before
+not-below : (c : at.Else1 reads.Pre reads.Post) → pos 0 ≤ℤ ac c.before
 not-below c =
     bounds (sizes c.before)
     (λ ρ e k. let t = simp (e 0, e 1, e 2, readℤ, kept k) at c.if-ac-lt0.false in simp (e 0, e 1, e 2, readℤ) (omega linear))
 
-level : (c : goal.Then-b-a-ge0) → pos 0 ≤ℤ turn c.before.before
+level : (c : goal.Then-level) → pos 0 ≤ℤ turn c.before.before
 level c =
     bounds (sizes c.before.before)
-    (λ ρ e k. let t = simp (e 0, e 1, e 2, readℤ, read_pos ρ 2, kept k) at c.if-b-a-ge0.true in simp (e 0, e 1, e 2, readℤ, read_pos ρ 2) (omega linear))
+    (λ ρ e k. let t = simp (e 0, e 1, e 2, readℤ, read_pos ρ 2, kept k) at c.if-level.true in simp (e 0, e 1, e 2, readℤ, read_pos ρ 2) (omega linear))
 
 turned : (c : at.Else2 reads.Pre reads.Post) → turn c.before.before <ℤ pos 0
 turned c =
     bounds (sizes c.before.before)
-    (λ ρ e k. let t = simp (e 0, e 1, e 2, readℤ, read_pos ρ 2, kept k) at c.if-b-a-ge0.false in simp (e 0, e 1, e 2, readℤ, read_pos ρ 2) (omega linear))
+    (λ ρ e k. let t = simp (e 0, e 1, e 2, readℤ, read_pos ρ 2, kept k) at c.if-level.false in simp (e 0, e 1, e 2, readℤ, read_pos ρ 2) (omega linear))
 
 edge : (c : goal.Then-ac-eq0) → ac c.before.before.before ≡ pos 0
 edge c =
@@ -100,14 +100,14 @@ overflow_mul-ac c = bounds (sizes c) (λ ρ e k. simp (e 0, e 1, e 2, readℤ, r
 pub returns-then-ac-lt0 : goal.returns-then-ac-lt0
 returns-then-ac-lt0 c = count_apart (x c.before) (below c)
 
-pub overflow_add-a : goal.overflow_add-a
-overflow_add-a c = bounds (sizes c.before) (λ ρ e k. simp (e 0, e 1, e 2, readℤ, read_pos ρ 2, kept k) (fits k _ refl))
+pub overflow_add-level : goal.overflow_add-level
+overflow_add-level c = bounds (sizes c.before) (λ ρ e k. simp (e 0, e 1, e 2, readℤ, read_pos ρ 2, kept k) (fits k _ refl))
 
-pub overflow_mul-b-2 : goal.overflow_mul-b-2
-overflow_mul-b-2 c = bounds (sizes c.before) (λ ρ e k. simp (e 0, e 1, e 2, readℤ, read_pos ρ 2, kept k) (fits k _ refl))
+pub overflow_mul-level : goal.overflow_mul-level
+overflow_mul-level c = bounds (sizes c.before) (λ ρ e k. simp (e 0, e 1, e 2, readℤ, read_pos ρ 2, kept k) (fits k _ refl))
 
-pub returns-then-b-a-ge0 : goal.returns-then-b-a-ge0
-returns-then-b-a-ge0 c = count_level (x c.before.before) (not-below c.before) (level c)
+pub returns-then-level : goal.returns-then-level
+returns-then-level c = count_level (x c.before.before) (not-below c.before) (level c)
 
 pub returns-then-ac-eq0 : goal.returns-then-ac-eq0
 returns-then-ac-eq0 c = count_edge (x c.before.before.before) (edge c) (turned c.before)
@@ -115,8 +115,8 @@ returns-then-ac-eq0 c = count_edge (x c.before.before.before) (edge c) (turned c
 pub overflow_mul-ac-2 : goal.overflow_mul-ac-2
 overflow_mul-ac-2 c = bounds (sizes c.before.before.before) (λ ρ e k. simp (e 0, e 1, e 2, readℤ, read_pos ρ 2, read_pos ρ 4, kept k) (fits k _ refl))
 
-pub overflow_mul-b-3 : goal.overflow_mul-b-3
-overflow_mul-b-3 c = bounds (sizes c.before.before.before) (λ ρ e k. simp (e 0, e 1, e 2, readℤ, read_pos ρ 2, read_pos ρ 4, kept k) (fits k _ refl))
+pub overflow_mul-b-2 : goal.overflow_mul-b-2
+overflow_mul-b-2 c = bounds (sizes c.before.before.before) (λ ρ e k. simp (e 0, e 1, e 2, readℤ, read_pos ρ 2, read_pos ρ 4, kept k) (fits k _ refl))
 
 pub returns-then-ac-b : goal.returns-then-ac-b
 returns-then-ac-b c = count_deep (x c.before.before.before.before) (above c.before) (turned c.before.before) (deep c)
