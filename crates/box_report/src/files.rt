@@ -1,6 +1,11 @@
 // Reading a file, so that one that fails half-way is told from a short one.
-ghost use Rattle.std.specs.Prelude.{length};
+ghost use Rattle.std.specs.Prelude.{length, ◌≤◌, IfOk};
 ghost use Rattle.box_report.specs.Boxes.{GotWithin};
+
+use std::fs::File;
+use std::io::ErrorKind;
+use std::{io, str};
+use streams::{read_full, say_error};
 
 // How many bytes were read, or that the file cannot be read.
 #[derive(Clone, Copy)]
@@ -9,34 +14,31 @@ pub enum Got {
     None,
 }
 
-// Reads until the area is full or the file ends. Where bytes are missing, one more read tells an end from a failure.
-fn read_all(fd: i32, area: &mut [u8]) -> Got
-    ensures { GotWithin (length area.new) result }
-{
-    let n = io::read_full(fd, area);
-    if n == area.len() {
-        return Got::Bytes(n);
+// Opens a file to be read.
+fn open(rt: &HostRuntime, name: &[u8]) -> io::Result<File> {
+    match str::from_utf8(name) {
+        Ok(path) => File::open(rt, path),
+        Err(_) => Err(io::Error::new(ErrorKind::InvalidFilename, "The name is not UTF-8 text")),
     }
-    let mut more = [0u8; 1];
-    if libc::read(fd, &mut more) != 0 {
-        return Got::None;
-    }
-    Got::Bytes(n)
 }
 
-// Reads a file by its name. Says why where that cannot be done: the reason is that of the last call that failed.
-pub(crate) fn read_file(name: &[u8], area: &mut [u8]) -> Got
-    ensures { GotWithin (length area.new) result }
+// Reads until the area is full or the file ends.
+fn read_all(rt: &HostRuntime, name: &[u8], area: &mut [u8]) -> io::Result<usize>
+    ensures { IfOk result (λ n. n ≤ length area.new) }
 {
-    let fd = os::open_read(name);
-    if fd < 0 {
-        os::fail(name);
-        return Got::None;
+    let mut file = open(rt, name)?;
+    read_full(&mut file, area)
+}
+
+// Reads a file by its name. Says why where that cannot be done.
+pub(crate) fn read_file(rt: &HostRuntime, name: &[u8], area: &mut [u8]) -> io::Result<Got>
+    ensures { IfOk result (GotWithin (length area.new)) }
+{
+    match read_all(rt, name, area) {
+        Ok(n) => Ok(Got::Bytes(n)),
+        Err(e) => {
+            say_error(&mut rt.stderr(), rt.alloc(), name, &e)?;
+            Ok(Got::None)
+        }
     }
-    let got = read_all(fd, area);
-    if let Got::None = got {
-        os::fail(name);
-    }
-    libc::close(fd);
-    got
 }

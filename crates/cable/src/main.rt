@@ -4,14 +4,17 @@
 
 mod lines;
 
-ghost use Rattle.std.specs.Prelude.{◌≤◌, length};
+ghost use Rattle.std.specs.Prelude.{◌≤◌, length, IfOk};
 ghost use Rattle.cable.specs.Cables.{Arriving, Takes, Stopped, LineIn};
 
-use libc::{STDIN_FILENO, STDOUT_FILENO};
 use lines::line_of;
 use parts::{Told, ask, end, feed, start};
 use record::LONGEST;
 use states::State;
+use std::alloc::Global;
+use std::io;
+use std::io::{Read, Write};
+use streams::say_error;
 
 // Why no more is read: the input has ended, cannot be read, or has more bytes than a sheet.
 #[derive(Clone, Copy)]
@@ -37,32 +40,38 @@ fn take_part(state: State, part: &[u8]) -> State
 }
 
 // Takes each part as it arrives, up to the end of the input. What is too long stays so, and no end is waited for then.
-fn take_parts(area: &mut [u8]) -> Arrived
-    ensures { Arriving result.state × Stopped result.state result.stop }
+fn take_parts<R: Read, W: Write>(
+    input: &mut R,
+    errors: &mut W,
+    alloc: Global,
+    area: &mut [u8],
+) -> io::Result<Arrived>
+    ensures { IfOk result (λ arrived. Arriving arrived.state × Stopped arrived.state arrived.stop) }
 {
     let mut state = start();
     while state.count <= LONGEST {
-        let got = libc::read(STDIN_FILENO, area);
-        if got < 0 {
-            os::fail(b"standard input");
-            return Arrived {
-                state,
-                stop: Stop::Failed,
-            };
-        }
-        let n = io::count(got, area);
+        let n = match input.read(area) {
+            Ok(n) => n,
+            Err(e) => {
+                say_error(errors, alloc, b"standard input", &e)?;
+                return Ok(Arrived {
+                    state,
+                    stop: Stop::Failed,
+                });
+            }
+        };
         if n == 0 {
-            return Arrived {
+            return Ok(Arrived {
                 state,
                 stop: Stop::End,
-            };
+            });
         }
         state = take_part(state, &area[..n]);
     }
-    Arrived {
+    Ok(Arrived {
         state,
         stop: Stop::TooMany,
-    }
+    })
 }
 
 // The line of the bytes that were taken, which have ended.
@@ -80,22 +89,22 @@ fn line_in(state: State, text: &mut [u8]) -> usize
     }
 }
 
-fn check_input(area: &mut [u8], text: &mut [u8])
+fn check_input(rt: &HostRuntime, area: &mut [u8], text: &mut [u8]) -> io::Result<()>
     requires { 24 ≤ length text.old }
 {
-    let arrived = take_parts(area);
+    let arrived = take_parts(&mut rt.stdin(), &mut rt.stderr(), rt.alloc(), area)?;
     let stop = arrived.stop;
     if let Stop::Failed = stop {
-        return;
+        return Ok(());
     }
     let state = arrived.state;
     let end = line_in(state, text);
-    io::write_all(STDOUT_FILENO, &text[..end]);
+    rt.stdout().write_all(&text[..end])
 }
 
 // No line is longer than 24 bytes.
-fn main() {
+fn main(rt: HostRuntime) -> io::Result<()> {
     let mut area = [0u8; 4096];
     let mut text = [0u8; 24];
-    check_input(&mut area, &mut text);
+    check_input(&rt, &mut area, &mut text)
 }

@@ -9,7 +9,7 @@ use lib.IntN.{pos}
 use lib.ListN.{replicate, length-replicate}
 use Rattle.refusal.specs.declared.Refusal.TheVariants as refusal
 use Rattle.refusal.specs.declared.Fault.{Fault}
-use Rattle.refusal.specs.Answers.{with_given, if◌then◌else◌}
+use Rattle.refusal.specs.Answers.{with_given, when◌then◌else◌}
 use Rattle.whole.specs.Coefficients.{at}
 use Rattle.poly.proofs.Zeros.{at-zeros}
 use Rattle.pair.specs.declared.Pair.{Pair}
@@ -68,7 +68,7 @@ abbrev line : Verdict
 line = pre (point 1 0) (w (point 1 0) (point 0 0) (point 0 0)) (pos 1) (q (pos 1) (pos 0) (pos 0) (pos 0) (pos 0))
 
 sample_reported : SheetHolds (reported sample sample_text)
-unfolding survey_of survey_from step_of erased_step erased_end kind_in may_stand sized_step named words points_in all_within coordinates signed_of digits_of if◌then◌else◌
+unfolding survey_of survey_from step_of erased_step erased_end kind_in may_stand sized_step named words points_in all_within coordinates signed_of digits_of when◌then◌else◌
 sample_reported = (
   _,
   (
@@ -91,7 +91,7 @@ infixr 4 ◌and◌
 a and b = (a, b)
 
 pub sheets_hold : AllHold sheets
-unfolding survey_of survey_from step_of erased_step erased_end kind_in may_stand sized_step named words all_within coordinates signed_of starting appending putting_at digits_of if◌then◌else◌
+unfolding survey_of survey_from step_of erased_step erased_end kind_in may_stand sized_step named words all_within coordinates signed_of starting appending putting_at digits_of when◌then◌else◌
 sheets_hold =
     refl and full and too_long
     and refl and refl

@@ -20,7 +20,7 @@ use Rattle.refusal.specs.declared.Fault.{Fault}
 use Rattle.refusal.specs.declared.Refusal.TheVariants as refusal
 use Rattle.area.specs.Area.{Cleared, Fills}
 use Rattle.area.proofs.Areas.{fills_none}
-use Rattle.refusal.specs.Answers.{Answer, refused, given, refuse, with_given, if◌then◌else◌}
+use Rattle.refusal.specs.Answers.{Answer, refused, given, refuse, with_given, when◌then◌else◌}
 use Rattle.area.specs.Promise.{values_of}
 use Rattle.hand.specs.Promise.{coded, fitted, Hands}
 
@@ -43,12 +43,12 @@ pub hands_refused : (f : Fault) {before after : List ℤ} {n : ℤ} → Cleared 
 hands_refused f {before} z l e = record { says = e; same_room = l; leaves = fills_none before z }
 
 fitted_short : (room : ℕ) (vs : List ℤ) → room < length vs → fitted room (given vs) ≡ refuse refusal.Room 0
-unfolding if◌then◌else◌
-fitted_short room vs l = ap (λ (b : Bool). if b then refuse refusal.Room 0 else given vs) (lt-ltb room (length vs) l)
+unfolding when◌then◌else◌
+fitted_short room vs l = ap (λ (b : Bool). when b then refuse refusal.Room 0 else given vs) (lt-ltb room (length vs) l)
 
 fitted-long : (room : ℕ) (vs : List ℤ) → length vs ≤ room → fitted room (given vs) ≡ given vs
-unfolding if◌then◌else◌
-fitted-long room vs l = ap (λ (b : Bool). if b then refuse refusal.Room 0 else given vs) (le-ltb room (length vs) l)
+unfolding when◌then◌else◌
+fitted-long room vs l = ap (λ (b : Bool). when b then refuse refusal.Room 0 else given vs) (le-ltb room (length vs) l)
 
 hands_as : (asked fits : Answer (List ℤ)) {before after : List ℤ} {n : ℤ} → fitted (length before) asked ≡ fits → n ≡ coded (with_given length fits)
     → length after ≡ length before → Fills (values_of fits) after → Hands asked before after n

@@ -10,7 +10,7 @@
 use Rattle.std.specs.Prelude.{◌≡◌, List, [], ◌∷◌, ◌≢◌, ◌⊎◌, ℕ, ◌+◌, ◌*◌, ltb, ℤ, pos, neg_ℤ, length}
 use Rattle.refusal.specs.declared.Refusal.TheVariants as refusal
 use Rattle.refusal.specs.Table.{number_of}
-use Rattle.refusal.specs.Answers.{Answer, refused, given, refuse, then_given, with_given, if◌then◌else◌}
+use Rattle.refusal.specs.Answers.{Answer, refused, given, refuse, then_given, with_given, when◌then◌else◌}
 use Rattle.area.specs.Area.{Fills}
 use Rattle.area.specs.Promise.{values_of}
 use Rattle.curve.specs.declared.Curve.{Curve}
@@ -26,7 +26,7 @@ coded (refused f) = neg_ℤ (pos (number_of f.refusal + 32 * f.place))
 coded (given count) = pos count
 
 abbrev pub fitted : ℕ → Answer (List ℤ) → Answer (List ℤ)
-fitted room = then_given (λ values. if ltb room (length values) then refuse refusal.Room 0 else given values)
+fitted room = then_given (λ values. when ltb room (length values) then refuse refusal.Room 0 else given values)
 
 pub record Hands (asked : Answer (List ℤ)) (before after : List ℤ) (r : ℤ) : Type 0 where
   pub says : r ≡ coded (with_given length (fitted (length before) asked))

@@ -13,7 +13,7 @@ use native.Mathlib.Omega.{arith}
 use lib.ListN.{length, take, replicate, length-replicate, length-take}
 use lib.Seq.{length-take-le, take-append-add, get_or-take}
 use borrow.Author.Tests.{ltb-false}
-use Rattle.refusal.specs.Answers.{given, with_given, if◌then◌else◌}
+use Rattle.refusal.specs.Answers.{given, with_given, when◌then◌else◌}
 use Rattle.refusal.proofs.Answers.{by_test, no_answer, given_once}
 use Rattle.pair.specs.declared.Pair.{Pair}
 use Rattle.curve.specs.declared.Curve.{Curve}
@@ -135,7 +135,7 @@ module _ (ls : List Line) (s : List ℕ) where
     no_curves = given_once (sym h.lists ∙ lists_of s refl ∙ (λ i. with_given (λ es. map points_of_entry (curves es)) (soundly (h.sound i) (h.stands.0 i))))
 
     begins : (a : Change) → StartsFor s number t a → step.Next next ≡ afterwards a → Holds (ls ++ (line.Mission number ∷ [])) next t
-    unfolding if◌then◌else◌
+    unfolding when◌then◌else◌
     begins (change.Refused f) g e = not-refused e
     begins change.Done g e =
         let v = start-listed s number t (sym g.says) in
@@ -234,10 +234,10 @@ size-within text area size m = let h = holds m.made in omega (arith, m.size_is, 
 
 -- ---- the sheet
 
-ended : (at : ℕ) (x : Step) → Ended at x Sound → x ≡ record_step_lem.Ends
-ended at record_step_lem.Ends e = refl
-ended at (record_step_lem.Fault r offset) e = let z : ◌≡◌ {A = ℕ} 0 1 = cc in absurd (omega arith)
-ended at (record_step_lem.Record k) e = absurd e
+ended : (at : ℕ) (x : Step) → Ended at x Sound → x ≡ record_step.Ends
+ended at record_step.Ends e = refl
+ended at (record_step.Fault r offset) e = let z : ◌≡◌ {A = ℕ} 0 1 = cc in absurd (omega arith)
+ended at (record_step.Record k) e = absurd e
 
 pub cut_sheet : (s : List ℕ) (size : ℕ) → (survey s).ending ≡ Sound → (survey s).end ≤ size → size ≤ length s → survey (take size s) ≡ survey s
 cut_sheet s size sound l m =
@@ -246,7 +246,7 @@ cut_sheet s size sound l m =
     let es = (survey s).records in
     let first = first_after true es in
     let end : (survey s).end ≡ length (flat es) = p.end_is ∙ omega arith in
-    let last : step_of first p.tail ≡ record_step_lem.Ends = ended (survey s).end (step_of first p.tail) (subst (λ (how : Ending). Ended (survey s).end (step_of first p.tail) how) sound p.last) in
+    let last : step_of first p.tail ≡ record_step.Ends = ended (survey s).end (step_of first p.tail) (subst (λ (how : Ending). Ended (survey s).end (step_of first p.tail) how) sound p.last) in
     let rest = size - length (flat es) in
     let there : size ≡ length (flat es) + rest = omega arith in
     let long : length (take rest p.tail) ≤ length p.tail = omega (arith, length-take rest p.tail) in

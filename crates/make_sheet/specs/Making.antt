@@ -15,7 +15,7 @@ use Rattle.pair.specs.declared.Pair.{Pair}
 use Rattle.curve.specs.declared.Curve.{Curve}
 use Rattle.curve.specs.Curves.{points_of}
 use Rattle.refusal.specs.declared.Refusal.TheVariants as refusal
-use Rattle.refusal.specs.Answers.{given, if◌then◌else◌}
+use Rattle.refusal.specs.Answers.{given, when◌then◌else◌}
 use Rattle.record.specs.Records.{longest, erased}
 use Rattle.reading.specs.Texts.{Lines}
 use Rattle.sheet.specs.declared.Change.{Change}
@@ -54,7 +54,7 @@ Adds stage.Started c s t r = Appended c s t r
 Adds (stage.Ended size) c s t r = (t ≡ s) × (r ≡ step.Wrong why.BehindErased)
 
 unfoldable pub ending_at : ℕ → ℕ → Step
-ending_at end count = if ltb longest (end + count) then step.Refused refusal.TooLong else step.Next (stage.Ended (end + count))
+ending_at end count = when ltb longest (end + count) then step.Refused refusal.TooLong else step.Next (stage.Ended (end + count))
 
 abbrev pub ending : Stage → ℕ → List ℕ → Step
 ending stage.Blank count s = ending_at (survey s).end count

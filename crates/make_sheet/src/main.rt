@@ -10,7 +10,6 @@ ghost use Rattle.std.specs.Prelude.{◌≡◌, length};
 ghost use Rattle.record.specs.Records.{longest};
 ghost use Rattle.make_sheet.specs.Making.{Makes};
 
-use libc::{STDIN_FILENO, STDOUT_FILENO};
 use lines::{Why, read_line};
 use making::{Stage, Step, size_of, take_line};
 use messages::{say, say_refused, say_wrong};
@@ -18,6 +17,9 @@ use reading::{Sought, find};
 use record::LONGEST;
 use refusal::Refusal;
 use sheet::erase;
+use std::io;
+use std::io::{Read, Write};
+use streams::read_full;
 
 // What was made: a sheet of so many bytes, or nothing, for a line was refused or is wrong.
 #[derive(Clone, Copy)]
@@ -52,32 +54,47 @@ fn make(text: &[u8], area: &mut [u8]) -> Made
 }
 
 // Makes the sheet, and hands it over or says why there is none.
-fn make_from(text: &[u8], area: &mut [u8])
+fn make_from<W: Write, E: Write>(
+    output: &mut W,
+    errors: &mut E,
+    text: &[u8],
+    area: &mut [u8],
+) -> io::Result<()>
     requires { length area.old ≡ longest }
 {
     match make(text, area) {
-        Made::Sheet(size) => {
-            io::write_all(STDOUT_FILENO, &area[..size]);
-        }
-        Made::Refused(line, refusal) => say_refused(line, refusal),
-        Made::Wrong(line, column, why) => say_wrong(line, column, why),
+        Made::Sheet(size) => output.write_all(&area[..size]),
+        Made::Refused(line, refusal) => say_refused(errors, line, refusal),
+        Made::Wrong(line, column, why) => say_wrong(errors, line, column, why),
     }
 }
 
 // A text that fills its area may go on behind it.
-fn make_input(text: &mut [u8], area: &mut [u8])
+fn make_input<R: Read, W: Write, E: Write>(
+    input: &mut R,
+    output: &mut W,
+    errors: &mut E,
+    text: &mut [u8],
+    area: &mut [u8],
+) -> io::Result<()>
     requires { length area.old ≡ longest }
 {
-    let read = io::read_full(STDIN_FILENO, text);
+    let read = read_full(input, text)?;
     if read == text.len() {
-        say(b"error: the text has more than 65,535 bytes\n");
+        say(errors, "error: the text has more than 65,535 bytes\n")
     } else {
-        make_from(&text[..read], area);
+        make_from(output, errors, &text[..read], area)
     }
 }
 
-fn main() {
-    let mut text = io::large_buffer();
+fn main(rt: HostRuntime) -> io::Result<()> {
+    let mut text = [0u8; 65536];
     let mut area = [0u8; LONGEST];
-    make_input(&mut text, &mut area);
+    make_input(
+        &mut rt.stdin(),
+        &mut rt.stdout(),
+        &mut rt.stderr(),
+        &mut text,
+        &mut area,
+    )
 }

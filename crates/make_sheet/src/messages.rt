@@ -1,94 +1,79 @@
 // The messages, on the error output.
 use crate::lines::{Form, Why};
-use libc::STDERR_FILENO;
 use refusal::{Refusal, number};
+use std::io;
+use std::io::Write;
 
-pub(crate) fn say(text: &[u8]) {
-    io::write_all(STDERR_FILENO, text);
-}
-
-fn say_number(n: u64) {
-    io::print_decimal(STDERR_FILENO, n);
+pub(crate) fn say<W: Write>(to: &mut W, text: &str) -> io::Result<()> {
+    to.write_all(text.as_bytes())
 }
 
 // The names of the table of refusals.
-fn say_name(refusal: Refusal) {
+fn name_of(refusal: Refusal) -> &'static str {
     match refusal {
-        Refusal::TooLong => say(b"TOO LONG"),
-        Refusal::Cut => say(b"CUT"),
-        Refusal::Leftover => say(b"LEFTOVER"),
-        Refusal::Kind => say(b"KIND"),
-        Refusal::Length => say(b"LENGTH"),
-        Refusal::Range => say(b"RANGE"),
-        Refusal::Number => say(b"NUMBER"),
-        Refusal::Still => say(b"STILL"),
-        Refusal::NotPh => say(b"NOT PH"),
-        Refusal::NoPreimage => say(b"NO PREIMAGE"),
-        Refusal::Root => say(b"ROOT"),
-        Refusal::Room => say(b"ROOM"),
-        Refusal::Thirds => say(b"THIRDS"),
-        Refusal::DeadEnd => say(b"DEAD END"),
-        Refusal::NoMission => say(b"NO MISSION"),
-        Refusal::OtherMission => say(b"OTHER MISSION"),
-        Refusal::Ended => say(b"ENDED"),
-        Refusal::Full => say(b"FULL"),
+        Refusal::TooLong => "TOO LONG",
+        Refusal::Cut => "CUT",
+        Refusal::Leftover => "LEFTOVER",
+        Refusal::Kind => "KIND",
+        Refusal::Length => "LENGTH",
+        Refusal::Range => "RANGE",
+        Refusal::Number => "NUMBER",
+        Refusal::Still => "STILL",
+        Refusal::NotPh => "NOT PH",
+        Refusal::NoPreimage => "NO PREIMAGE",
+        Refusal::Root => "ROOT",
+        Refusal::Room => "ROOM",
+        Refusal::Thirds => "THIRDS",
+        Refusal::DeadEnd => "DEAD END",
+        Refusal::NoMission => "NO MISSION",
+        Refusal::OtherMission => "OTHER MISSION",
+        Refusal::Ended => "ENDED",
+        Refusal::Full => "FULL",
     }
 }
 
-pub(crate) fn say_refused(line: usize, refusal: Refusal) {
-    say(b"line ");
-    say_number(line as u64);
-    say(b": refused ");
-    say_number(number(refusal) as u64);
-    say(b" ");
-    say_name(refusal);
-    say(b"\n");
+pub(crate) fn say_refused<W: Write>(to: &mut W, line: usize, refusal: Refusal) -> io::Result<()> {
+    let name = name_of(refusal);
+    writeln!(to, "line {line}: refused {} {name}", number(refusal))
 }
 
 // What a line of a form looks like.
-fn say_form(form: Form) {
+fn shape_of(form: Form) -> &'static str {
     match form {
-        Form::Mission => say(b"`mission` has one number"),
-        Form::Cubic => say(b"`C3` has 4 points, each as x,y"),
-        Form::Quintic => say(b"`C5` has 6 points, each as x,y"),
-        Form::Erased => say(b"`erased` has one number"),
-        Form::Unknown => say(
-            b"a line is `mission N`, `C3` with 4 points, `C5` with 6 points, or `erased N`",
-        ),
+        Form::Mission => "`mission` has one number",
+        Form::Cubic => "`C3` has 4 points, each as x,y",
+        Form::Quintic => "`C5` has 6 points, each as x,y",
+        Form::Erased => "`erased` has one number",
+        Form::Unknown => {
+            "a line is `mission N`, `C3` with 4 points, `C5` with 6 points, or `erased N`"
+        }
     }
 }
 
-fn say_why(why: Why) {
+// What is wrong, and with which words about the form of the line behind it.
+fn reason_of(why: Why) -> (&'static str, &'static str) {
     match why {
-        Why::Word => {
-            say(b"no line begins with this word: ");
-            say_form(Form::Unknown);
-        }
-        Why::NoNumber => say(b"this is no whole number"),
-        Why::TooLarge => say(b"this number is too large to be read"),
-        Why::Missing(form) => {
-            say(b"a number is missing here: ");
-            say_form(form);
-        }
-        Why::TooMany(form) => {
-            say(b"this number is one too many: ");
-            say_form(form);
-        }
-        Why::MissionNumber => say(b"a mission's number is from 0 to 65535"),
-        Why::BelowNothing => say(b"there cannot be fewer than 0 erased bytes"),
-        Why::MissionAgain => say(
-            b"the sheet has its mission already: `mission` stands once, before the curves",
+        Why::Word => ("no line begins with this word: ", shape_of(Form::Unknown)),
+        Why::NoNumber => ("this is no whole number", ""),
+        Why::TooLarge => ("this number is too large to be read", ""),
+        Why::Missing(form) => ("a number is missing here: ", shape_of(form)),
+        Why::TooMany(form) => ("this number is one too many: ", shape_of(form)),
+        Why::MissionNumber => ("a mission's number is from 0 to 65535", ""),
+        Why::BelowNothing => ("there cannot be fewer than 0 erased bytes", ""),
+        Why::MissionAgain => (
+            "the sheet has its mission already: `mission` stands once, before the curves",
+            "",
         ),
-        Why::BehindErased => say(b"nothing but comments stands behind `erased`"),
+        Why::BehindErased => ("nothing but comments stands behind `erased`", ""),
     }
 }
 
-pub(crate) fn say_wrong(line: usize, column: usize, why: Why) {
-    say(b"error at line ");
-    say_number(line as u64);
-    say(b", column ");
-    say_number(column as u64);
-    say(b": ");
-    say_why(why);
-    say(b"\n");
+pub(crate) fn say_wrong<W: Write>(
+    to: &mut W,
+    line: usize,
+    column: usize,
+    why: Why,
+) -> io::Result<()> {
+    let (reason, shape) = reason_of(why);
+    writeln!(to, "error at line {line}, column {column}: {reason}{shape}")
 }

@@ -10,7 +10,7 @@ use mathlib.Core.List.{[], ◌∷◌}
 use Prim.Native.Nat.{ℕ, ◌*◌, ◌^◌, ◌≤◌, ◌<◌}
 use native.Mathlib.Nat.{le_refl, mul-le-mul, mul-le-mul_left}
 use native.Mathlib.Omega.{arith}
-use lib.IntN.{ℤ, pos, nat_abs, ◌*ℤ◌}
+use lib.IntN.{pos, nat_abs, ◌*ℤ◌}
 use lib.Signed.{◌≤ℤ◌}
 use Rattle.whole.specs.Coefficients.{at}
 use Rattle.whole.specs.Number.{wholes}

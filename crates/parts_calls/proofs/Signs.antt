@@ -17,7 +17,7 @@ use mir.Syntax.{w64}
 use mir.Val.{SFits, to_z, of_z}
 use mir.ValLaws.{to_z-of_z}
 use borrow.Author.Tests.{lt-ltb, le-ltb}
-use Rattle.refusal.specs.Answers.{if◌then◌else◌}
+use Rattle.refusal.specs.Answers.{when◌then◌else◌}
 use Rattle.whole.proofs.Linear.{linear}
 use Rattle.record.proofs.Signs.{neg_is, neg-room}
 use Rattle.parts_calls.specs.Numbers.{unsigned, signed}
@@ -38,7 +38,7 @@ one_less zero = refl
 one_less (suc m) = ap (λ (k : ℕ). negsuc (suc k)) (add-zero m)
 
 pub signed_low : (n : ℕ) → n < 9223372036854775808 → signed n ≡ pos n
-unfolding signed if◌then◌else◌
+unfolding signed when◌then◌else◌
 signed_low n l = rw (lt-ltb n 9223372036854775808 l)
 
 module _ (n : ℕ) (l : 9223372036854775808 ≤ n) where
@@ -52,7 +52,7 @@ module _ (n : ℕ) (l : 9223372036854775808 ≤ n) where
   below-room = subst (SFits w64) (sym kept) (record { sfits = omega arith })
 
   pub below-is : to_z w64 (of_z w64 (to_z w64 (of_z w64 (pos 0 -ℤ to_z w64 below)) -ℤ pos 1)) ≡ signed n
-  unfolding signed if◌then◌else◌
+  unfolding signed when◌then◌else◌
   below-is = rw (le-ltb n 9223372036854775808 l) (to_z-of_z w64 _ below-room ∙ kept)
 
 -- ---- seven words, one by one

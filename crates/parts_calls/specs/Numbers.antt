@@ -5,7 +5,7 @@
 --   state_in            the state that an area holds
 --   numbers_in          a state's numbers
 use Rattle.std.specs.Prelude.{List, [], ◌∷◌, map, ℕ, suc, ◌-◌, ltb, ℤ, pos, negsuc, get_or}
-use Rattle.refusal.specs.Answers.{if◌then◌else◌}
+use Rattle.refusal.specs.Answers.{when◌then◌else◌}
 use Rattle.states.specs.declared.State.{State}
 
 abbrev pub state_numbers : ℕ
@@ -17,7 +17,7 @@ unsigned (pos n) = n
 unsigned (negsuc n) = 18446744073709551616 - suc n
 
 unfoldable pub signed : ℕ → ℤ
-signed n = if ltb n 9223372036854775808 then pos n else negsuc (18446744073709551615 - n)
+signed n = when ltb n 9223372036854775808 then pos n else negsuc (18446744073709551615 - n)
 
 abbrev pub number_at : List ℤ → ℕ → ℕ
 number_at area i = unsigned (get_or area i (pos 0))

@@ -13,7 +13,7 @@ use lib.Dec.{eqb}
 use lib.ListN.{length, get_or, length-append}
 use lib.Seq.{get_or-append-add}
 use borrow.Author.Tests.{eqb-true, eqb-false, eq-eqb}
-use Rattle.refusal.specs.Answers.{if◌then◌else◌}
+use Rattle.refusal.specs.Answers.{when◌then◌else◌}
 use Rattle.refusal.proofs.Answers.{by_test}
 use Rattle.record.specs.Records.{erased, erased_bytes}
 
@@ -21,7 +21,7 @@ abbrev pub AllErased : List ℕ → Type 0
 AllErased bytes = (i : ℕ) → i < length bytes → get_or bytes i 0 ≡ erased
 
 pub all-erased : (bytes : List ℕ) → AllErased bytes → erased_bytes bytes ≡ length bytes
-unfolding if◌then◌else◌
+unfolding when◌then◌else◌
 all-erased [] f = refl
 all-erased (b ∷ bytes) f = rw (eq-eqb _ _ (f 0 (omega arith))) (ap suc (all-erased bytes (λ i l. f (suc i) (omega arith))))
 

@@ -24,7 +24,7 @@ use Rattle.record.specs.declared.kinds.Kind.{Kind}
 use Rattle.record.specs.declared.kinds.Row.{Row}
 use Rattle.record.specs.Kinds.{row_of, words, kind_of, numbers_of, record_of, points_in}
 use Rattle.record.specs.Records.{named, all_within}
-use Rattle.refusal.specs.Answers.{if◌then◌else◌}
+use Rattle.refusal.specs.Answers.{when◌then◌else◌}
 use Rattle.refusal.proofs.Answers.{both_true}
 use Rattle.record.proofs.Table.{row-known, own_name, head_of, head_of_row}
 use Rattle.record.proofs.Words.{words_shifted, coordinates-words}
@@ -91,7 +91,7 @@ paired-numbers (p ∷ ps) = ap (λ (qs : List Pair). p ∷ qs) (paired-numbers p
 
 -- a curve's kind is a curve's, with a place for each of its numbers
 curve-kind : (c : Curve) → ((row_of (kind_of c)).curve ≡ true) × (length (numbers_of (points_of c)) ≡ words (kind_of c))
-unfolding words if◌then◌else◌
+unfolding words when◌then◌else◌
 curve-kind (curves.Cubic c) = (refl, refl)
 curve-kind (curves.Quintic c) = (refl, refl)
 

@@ -14,7 +14,7 @@ use lib.Dec.{eqb, eqb-suc-suc, eqb-zero-suc}
 use lib.ListN.{length, get_or, take, drop, replicate, length-take, take-append-drop, get_or-append}
 use lib.Seq.{take_all, length-take-le, get_or-take}
 use borrow.Author.Tests.{ne_eqb, lt-ltb, le-ltb}
-use Rattle.refusal.specs.Answers.{if◌then◌else◌}
+use Rattle.refusal.specs.Answers.{when◌then◌else◌}
 use Rattle.refusal.proofs.Answers.{by_test, by_order}
 use Rattle.record.specs.Numbers.{size_of}
 use Rattle.record.specs.declared.kinds.Kind.{Kind}
@@ -37,13 +37,13 @@ erased-within (b ∷ bytes) =
     by_test (λ (n : ℕ). n ≤ suc (length bytes)) (eqb b erased) (λ _. omega arith) (λ _. omega arith)
 
 pub erased-replicate : (n : ℕ) → erased_bytes (replicate n erased) ≡ n
-unfolding if◌then◌else◌
+unfolding when◌then◌else◌
 erased-replicate zero = refl
 erased-replicate (suc n) = ap suc (erased-replicate n)
 
 -- one byte more: whether it is FF, c, decides on both sides
-take_more : (c : Bool) (n a d : ℕ) → a ≡ min n d → (if c then suc a else 0) ≡ min (suc n) (if c then suc d else 0)
-unfolding if◌then◌else◌
+take_more : (c : Bool) (n a d : ℕ) → a ≡ min n d → (when c then suc a else 0) ≡ min (suc n) (when c then suc d else 0)
+unfolding when◌then◌else◌
 take_more true n a d e = ap suc e ∙ sym (suc-min-suc n d)
 take_more false n a d e = sym (min-zero (suc n))
 
@@ -52,19 +52,19 @@ erased-take zero bytes = sym (zero-min (erased_bytes bytes))
 erased-take (suc n) [] = sym (min-zero (suc n))
 erased-take (suc n) (b ∷ bytes) = take_more (eqb b erased) n _ _ (erased-take n bytes)
 
-suc_either : (c : Bool) (l m d : ℕ) → suc (if c then l + m else d) ≡ (if c then suc l + m else suc d)
-unfolding if◌then◌else◌
+suc_either : (c : Bool) (l m d : ℕ) → suc (when c then l + m else d) ≡ (when c then suc l + m else suc d)
+unfolding when◌then◌else◌
 suc_either true l m d = sym (suc-add l m)
 suc_either false l m d = refl
 
-append-more : (c : Bool) (l m a d : ℕ) → a ≡ (if eqb d l then l + m else d)
-    → (if c then suc a else 0) ≡ (if eqb (if c then suc d else 0) (suc l) then suc l + m else (if c then suc d else 0))
-unfolding if◌then◌else◌
+append-more : (c : Bool) (l m a d : ℕ) → a ≡ (when eqb d l then l + m else d)
+    → (when c then suc a else 0) ≡ (when eqb (when c then suc d else 0) (suc l) then suc l + m else (when c then suc d else 0))
+unfolding when◌then◌else◌
 append-more true l m a d e = rw (eqb-suc-suc d l) (ap suc e ∙ suc_either (eqb d l) l m d)
 append-more false l m a d e = rw (eqb-zero-suc l)
 
-pub erased-append : (front more : List ℕ) → erased_bytes (front ++ more) ≡ (if eqb (erased_bytes front) (length front) then length front + erased_bytes more else erased_bytes front)
-unfolding if◌then◌else◌
+pub erased-append : (front more : List ℕ) → erased_bytes (front ++ more) ≡ (when eqb (erased_bytes front) (length front) then length front + erased_bytes more else erased_bytes front)
+unfolding when◌then◌else◌
 erased-append [] more = sym (zero-add (erased_bytes more))
 erased-append (b ∷ front) more = append-more (eqb b erased) (length front) (erased_bytes more) _ _ (erased-append front more)
 
@@ -80,7 +80,7 @@ step_by erased_first left (step.Record k) = step.Record k
 -- ---- the step of bytes that are no longer than a front
 
 erased-whole : (n left : ℕ) → left ≤ n → erased_end n left ≡ step.Ends
-unfolding erased_end if◌then◌else◌
+unfolding erased_end when◌then◌else◌
 erased-whole n left l = rw (le-ltb n left l)
 
 own-step : (first : Bool) (bytes : List ℕ) (x : Step) → step_of first bytes ≡ x → x ≡ step_by (erased_bytes bytes) (length bytes) x
@@ -91,13 +91,13 @@ own-step first bytes (step.Record k) e = refl
 -- ---- the step of more bytes than that
 
 -- the tests that are left of four bytes or more
-later : (first : Bool) (s : List ℕ) → 4 ≤ length s → step_of first s ≡ (if eqb (size_of s) erased_length then erased_step s else kind_step first s (kind_in kinds s))
-unfolding step_of if◌then◌else◌
+later : (first : Bool) (s : List ℕ) → 4 ≤ length s → step_of first s ≡ (when eqb (size_of s) erased_length then erased_step s else kind_step first s (kind_in kinds s))
+unfolding step_of when◌then◌else◌
 later first s l = rw (ne_eqb (length s) 0 (λ q. omega arith), ne_eqb (length s) 1 (λ q. omega arith), le-ltb (length s) 4 l)
 
 -- one test on both sides
-either : (f : Step → Step) (c : Bool) {x y x' y' : Step} → x ≡ f x' → y ≡ f y' → (if c then x else y) ≡ f (if c then x' else y')
-unfolding if◌then◌else◌
+either : (f : Step → Step) (c : Bool) {x y x' y' : Step} → x ≡ f x' → y ≡ f y' → (when c then x else y) ≡ f (when c then x' else y')
+unfolding when◌then◌else◌
 either f true p q = p
 either f false p q = q
 
@@ -123,7 +123,7 @@ module _ (first : Bool) (bytes : List ℕ) (long : longest_record < length bytes
   size_same = let p = same 0 (omega arith) in let q = same 1 (omega arith) in omega arith
 
   sized_same : (k : Kind) → sized_step k front ≡ sized_step k bytes
-  unfolding sized_step if◌then◌else◌
+  unfolding sized_step when◌then◌else◌
   sized_same k =
       let known = row-known k in
       rw (
@@ -140,7 +140,7 @@ module _ (first : Bool) (bytes : List ℕ) (long : longest_record < length bytes
 
   -- a byte that is not FF stands in the front, or the front tells nothing
   erased-same : erased_step bytes ≡ step_by (erased_bytes bytes) (length bytes) (erased_step front)
-  unfolding erased_step erased_end if◌then◌else◌
+  unfolding erased_step erased_end when◌then◌else◌
   erased-same =
       let e = erased-take longest_record bytes in
       by_order longest_record (erased_bytes bytes)
@@ -156,7 +156,7 @@ module _ (first : Bool) (bytes : List ℕ) (long : longest_record < length bytes
       let kind : kind_in kinds bytes ≡ kind_in kinds front = same_kind kinds bytes front (sym (same 2 (omega arith))) (sym (same 3 (omega arith))) in
       later first bytes (omega arith)
       ∙ either by (eqb (size_of bytes) erased_length) erased-same (kind-same (kind_in kinds bytes) ∙ ap (λ (x : Named). by (kind_step first front x)) kind)
-      ∙ ap (λ (c : Bool). by (if c then erased_step front else kind_step first front (kind_in kinds front))) (sym test)
+      ∙ ap (λ (c : Bool). by (when c then erased_step front else kind_step first front (kind_in kinds front))) (sym test)
       ∙ ap by (sym (later first front (omega (arith, front_long))))
 
 pub step_by_front : (first : Bool) (bytes : List ℕ) → step_of first bytes ≡ step_by (erased_bytes bytes) (length bytes) (step_of first (take longest_record bytes))

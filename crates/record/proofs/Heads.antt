@@ -12,7 +12,7 @@ use lib.ListN.{length, get_or}
 use mir.Syntax.{w8}
 use mir.Val.{Fits}
 use borrow.Author.Tests.{eqb-true, ne_eqb, le-ltb}
-use Rattle.refusal.specs.Answers.{if◌then◌else◌}
+use Rattle.refusal.specs.Answers.{when◌then◌else◌}
 use Rattle.refusal.proofs.Answers.{both_true}
 use Rattle.record.specs.declared.kinds.Kind.{Kind}
 use Rattle.record.specs.Numbers.{size_of, word_bytes}
@@ -36,7 +36,7 @@ module _ (k : Kind) (s : List ℕ) (bytes : (i : ℕ) → Fits w8 (get_or s i 0)
   head_name = same_name k s (head_of (row_of k)) (ap (λ (l : List ℕ). get_or l 2 0) four) (ap (λ (l : List ℕ). get_or l 3 0) four) ∙ own_name k ((row_of k).size % 256) ((row_of k).size / 256) []
 
   pub headed_step : (first : Bool) → may_stand first k ≡ true → step_of first s ≡ sized_step k s
-  unfolding step_of if◌then◌else◌
+  unfolding step_of when◌then◌else◌
   headed_step first m =
       let l = h.long in
       let w : size_of s < erased_length = omega (arith, head-size, (row-known k).short) in

@@ -15,7 +15,7 @@ use lib.ListN.{length, get_or, drop, drop_of_length-le}
 use lib.Seq.{drop-cons}
 use borrow.Author.Tests.{eq-eqb, ne_eqb, leb-true}
 use Rattle.whole.specs.Number.{Within}
-use Rattle.refusal.specs.Answers.{if◌then◌else◌}
+use Rattle.refusal.specs.Answers.{when◌then◌else◌}
 use Rattle.curve.specs.Sizes.{coordinate_reach}
 use Rattle.record.specs.Numbers.{word_at, signed_of, coordinates}
 use Rattle.record.specs.Records.{erased, erased_bytes, all_within}
@@ -24,15 +24,15 @@ use Rattle.refusal.proofs.Answers.{both_true}
 -- ---- the erased bytes
 
 pub erased-all : (s : List ℕ) (i : ℕ) → length s ≤ i → i ≡ i + erased_bytes (drop i s)
-unfolding if◌then◌else◌
+unfolding when◌then◌else◌
 erased-all s i h = rw (drop_of_length-le s {i = i} h) (omega arith)
 
 pub erased_stop : (s : List ℕ) (i : ℕ) → i < length s → (get_or s i 0 ≡ erased → ⊥) → i ≡ i + erased_bytes (drop i s)
-unfolding if◌then◌else◌
+unfolding when◌then◌else◌
 erased_stop s i h k = rw (drop-cons s i 0 h, ne_eqb _ _ k) (omega arith)
 
 pub erased-more : (s : List ℕ) (i : ℕ) → i < length s → get_or s i 0 ≡ erased → i + 1 + erased_bytes (drop (i + 1) s) ≡ i + erased_bytes (drop i s)
-unfolding if◌then◌else◌
+unfolding when◌then◌else◌
 erased-more s i h k = rw (drop-cons s i 0 h, eq-eqb _ _ k, add-one) (omega arith)
 
 -- ---- a record's coordinates: whether those seen are within the range, and what is left of them

@@ -12,7 +12,7 @@ use lib.ListN.{length, take, drop}
 use lib.Seq.{drop-drop}
 use borrow.Author.Tests.{lt-ltb, le-ltb, ltb-false, not-false}
 use Rattle.refusal.specs.declared.Refusal.TheVariants as refusal
-use Rattle.refusal.specs.Answers.{Answer, given, if◌then◌else◌}
+use Rattle.refusal.specs.Answers.{Answer, given, when◌then◌else◌}
 use Rattle.refusal.proofs.Answers.{by_test, no_answer, given_once}
 use Rattle.curve.specs.declared.Curve.{Curve}
 use Rattle.curve.specs.Curves.{points_of}
@@ -31,15 +31,15 @@ put_back s at n x e =
 
 module _ (s : List ℕ) (at : ℕ) (k : Kind) (xs : List ℤ) where
   pub at_range : all_within xs ≡ false → PutsAt s at k xs s (put.Refused refusal.Range)
-  unfolding putting_at if◌then◌else◌
+  unfolding putting_at when◌then◌else◌
   at_range w = record { says = rw w; leaves = rw w }
 
   pub at_room : all_within xs ≡ true → length s - at < (row_of k).size → PutsAt s at k xs s (put.Refused refusal.Room)
-  unfolding putting_at if◌then◌else◌
+  unfolding putting_at when◌then◌else◌
   at_room w l = record { says = rw (w, lt-ltb _ _ l); leaves = rw (w, lt-ltb _ _ l) }
 
   pub at_done : all_within xs ≡ true → (row_of k).size ≤ length s - at → {t : List ℕ} → t ≡ written s at (formed k (encoded xs)) → PutsAt s at k xs t put.Done
-  unfolding putting_at if◌then◌else◌
+  unfolding putting_at when◌then◌else◌
   at_done w l e = record { says = rw (w, le-ltb _ _ l) (ap given e); leaves = rw (w, le-ltb _ _ l) e }
 
   pub done_by : (t : List ℕ) → given t ≡ putting_at s at k xs → (all_within xs ≡ true) × ((row_of k).size ≤ length s - at) × (t ≡ written s at (formed k (encoded xs)))

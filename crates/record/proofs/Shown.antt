@@ -20,7 +20,7 @@ use borrow.Author.Tests.{eqb-true, eqb-false, ltb-true, ltb-false, eq-eqb, ne_eq
 use Rattle.refusal.specs.declared.Refusal.{Refusal}
 use Rattle.refusal.specs.declared.Refusal.TheVariants as refusal
 use Rattle.refusal.specs.Table.{number_of}
-use Rattle.refusal.specs.Answers.{if◌then◌else◌}
+use Rattle.refusal.specs.Answers.{when◌then◌else◌}
 use Rattle.record.specs.Numbers.{size_of, signed_of, coordinates}
 use Rattle.record.specs.declared.kinds.Kind.{Kind}
 use Rattle.record.specs.declared.kinds.Named.{Named}
@@ -112,7 +112,7 @@ fault_placed first bytes r offset e = placed_in (subst (Shown first bytes) e (sh
 -- ---- from the bytes to the step
 
 pub record_step_lem : (first : Bool) (k : Kind) (bytes : List ℕ) → may_stand first k ≡ true → Holds k bytes → step_of first bytes ≡ step.Record k
-unfolding step_of sized_step if◌then◌else◌
+unfolding step_of sized_step when◌then◌else◌
 record_step_lem first k bytes m h =
     let z = row-known k in
     let l : 4 < length bytes = omega (arith, h.fits, z.long) in

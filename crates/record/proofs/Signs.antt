@@ -21,7 +21,7 @@ use borrow.Author.Tests.{lt-ltb, le-ltb, le-leb, lt-leb, ltb-true, ltb-false}
 use Rattle.whole.specs.Number.{Within}
 use Rattle.whole.proofs.Linear.{linear, minus_parts, negative_parts, one-part}
 use Rattle.pair.specs.declared.Pair.{Pair}
-use Rattle.refusal.specs.Answers.{if◌then◌else◌}
+use Rattle.refusal.specs.Answers.{when◌then◌else◌}
 use Rattle.curve.specs.Sizes.{coordinate_reach}
 use Rattle.record.specs.Numbers.{signed_of, bits}
 use Rattle.refusal.proofs.Answers.{by_order}
@@ -33,11 +33,11 @@ abs_neg zero = refl
 abs_neg (suc k) = refl
 
 abs_low : (w : ℕ) → w < 2147483648 → nat_abs (signed_of w) ≡ w
-unfolding signed_of if◌then◌else◌
+unfolding signed_of when◌then◌else◌
 abs_low w l = rw (lt-ltb w 2147483648 l)
 
 abs_high : (w : ℕ) → 2147483648 ≤ w → nat_abs (signed_of w) ≡ 4294967296 - w
-unfolding signed_of if◌then◌else◌
+unfolding signed_of when◌then◌else◌
 abs_high w l = rw (le-ltb w 2147483648 l) (abs_neg (4294967296 - w))
 
 module _ (w : ℕ) (small : w < 4294967296) where
@@ -65,11 +65,11 @@ module _ (w : ℕ) (small : w < 4294967296) where
   m = (w + 2147483648) % 4294967296
 
   moved-low : w < 2147483648 → pos m -ℤ pos 2147483648 ≡ signed_of w
-  unfolding signed_of if◌then◌else◌
+  unfolding signed_of when◌then◌else◌
   moved-low l = rw (lt-ltb w 2147483648 l) (omega (linear, minus_parts (pos m) (pos 2147483648)))
 
   moved-high : 2147483648 ≤ w → pos m -ℤ pos 2147483648 ≡ signed_of w
-  unfolding signed_of if◌then◌else◌
+  unfolding signed_of when◌then◌else◌
   moved-high l = rw (le-ltb w 2147483648 l) (omega (linear, minus_parts (pos m) (pos 2147483648), negative_parts (pos (4294967296 - w))))
 
   m-kept : to_z w64 m ≡ pos m
@@ -105,7 +105,7 @@ bits_small (pos n) h = omega arith
 bits_small (negsuc n) h = omega arith
 
 pub signed-bits : (x : ℤ) → Within coordinate_reach x → signed_of (bits x) ≡ x
-unfolding signed_of if◌then◌else◌
+unfolding signed_of when◌then◌else◌
 signed-bits (pos n) h = rw (lt-ltb n 2147483648 (omega arith))
 signed-bits (negsuc n) h =
     let e : 4294967296 - (4294967296 - suc n) ≡ suc n = omega arith in

@@ -14,7 +14,7 @@ use lib.ListN.{get_or, take, drop}
 use lib.Seq.{take_at}
 use borrow.Author.Tests.{eqb-true}
 use lib.Dec.{eqb}
-use Rattle.refusal.specs.Answers.{if◌then◌else◌}
+use Rattle.refusal.specs.Answers.{when◌then◌else◌}
 use Rattle.refusal.proofs.Answers.{by_test, both_true}
 use Rattle.record.specs.declared.kinds.Kind.{Kind}
 use Rattle.record.specs.declared.kinds.Kind.TheVariants.{Header, Cubic, Quintic}
@@ -42,7 +42,7 @@ pub record RowKnown (k : Kind) : Type 0 where
   pub curve_holds : (row_of k).curve ≡ true → 4 + 4 * words k ≡ (row_of k).size
 
 pub row-known : (k : Kind) → RowKnown k
-unfolding kind_in named words if◌then◌else◌
+unfolding kind_in named words when◌then◌else◌
 row-known Header = record { two = refl; found = refl; name_bytes = (omega arith, (omega arith, tt)); head_is = refl; long = omega arith; short = omega arith; holds = omega arith; curve_long = λ e. absurd (false≢true e); curve_holds = λ e. absurd (false≢true e) }
 row-known Cubic = record { two = refl; found = refl; name_bytes = (omega arith, (omega arith, tt)); head_is = refl; long = omega arith; short = omega arith; holds = omega arith; curve_long = λ _. omega arith; curve_holds = λ _. refl }
 row-known Quintic = record { two = refl; found = refl; name_bytes = (omega arith, (omega arith, tt)); head_is = refl; long = omega arith; short = omega arith; holds = omega arith; curve_long = λ _. omega arith; curve_holds = λ _. refl }

@@ -11,7 +11,7 @@
 --   record_of     the bytes of a curve's record
 --   points_in     the points that a record's bytes hold
 use Rattle.std.specs.Prelude.{true, false, List, [], ◌∷◌, ◌++◌, ℕ, ◌-◌, ◌/◌, ◌%◌, ℤ, length}
-use Rattle.refusal.specs.Answers.{if◌then◌else◌}
+use Rattle.refusal.specs.Answers.{when◌then◌else◌}
 use Rattle.pair.specs.declared.Pair.{Pair}
 use Rattle.curve.specs.declared.Curve.{Curve}
 use Rattle.curve.specs.declared.Curve.TheVariants as curves
@@ -34,7 +34,7 @@ abbrev pub kinds : List Kind
 kinds = Header ∷ Cubic ∷ Quintic ∷ []
 
 unfoldable pub words : Kind → ℕ
-words k = if (row_of k).coordinates then ((row_of k).size - 4) / 4 else 0
+words k = when (row_of k).coordinates then ((row_of k).size - 4) / 4 else 0
 
 abbrev pub kind_of : Curve → Kind
 kind_of (curves.Cubic c) = Cubic

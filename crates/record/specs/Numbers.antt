@@ -15,7 +15,7 @@
 use Rattle.std.specs.Prelude.{List, [], ◌∷◌, ◌++◌, ℕ, zero, suc, ◌+◌, ◌-◌, ◌*◌, ◌/◌, ◌%◌, ◌<◌, length, get_or, take, drop, ℤ, pos, negsuc, neg_ℤ, ltb}
 use Rattle.pair.specs.declared.Pair.{Pair}
 use Rattle.pair.specs.Pairs.{pair}
-use Rattle.refusal.specs.Answers.{if◌then◌else◌}
+use Rattle.refusal.specs.Answers.{when◌then◌else◌}
 
 abbrev pub half_at : List ℕ → ℕ → ℕ
 half_at bytes at = get_or bytes at 0 + 256 * get_or bytes (at + 1) 0
@@ -31,7 +31,7 @@ word_at bytes at = get_or bytes at 0 + 256 * get_or bytes (at + 1) 0 + 65536 * g
 
 -- w below 2^31, and w − 2^32 from there on
 unfoldable pub signed_of : ℕ → ℤ
-signed_of w = if ltb w 2147483648 then pos w else neg_ℤ (pos (4294967296 - w))
+signed_of w = when ltb w 2147483648 then pos w else neg_ℤ (pos (4294967296 - w))
 
 unfoldable pub coordinates : ℕ → List ℕ → ℕ → List ℤ
 coordinates zero bytes at = []

@@ -5,7 +5,7 @@
 --   answer_of_put, bytes_after, PutsAt    what is said and left: a refusal changes nothing
 use Rattle.std.specs.Prelude.{◌≡◌, true, not, List, ℕ, ◌-◌, ◌≤◌, ltb, ℤ, length, take}
 use Rattle.refusal.specs.declared.Refusal.TheVariants as refusal
-use Rattle.refusal.specs.Answers.{Answer, refused, given, refuse, if◌then◌else◌}
+use Rattle.refusal.specs.Answers.{Answer, refused, given, refuse, when◌then◌else◌}
 use Rattle.curve.specs.Curves.{points_of}
 use Rattle.record.specs.declared.kinds.Kind.{Kind}
 use Rattle.record.specs.declared.kinds.Named.TheVariants as named_as
@@ -30,8 +30,8 @@ IsHeld rest held.None = (k : Kind) → BeginsCurve rest k → ⊥
 
 unfoldable pub putting_at : List ℕ → ℕ → Kind → List ℤ → Answer (List ℕ)
 putting_at s at k xs =
-    if not (all_within xs) then refuse refusal.Range 0
-    else if ltb (length s - at) (row_of k).size then refuse refusal.Room 0
+    when not (all_within xs) then refuse refusal.Range 0
+    else when ltb (length s - at) (row_of k).size then refuse refusal.Room 0
     else given (written s at (formed k (encoded xs)))
 
 -- of a call after which the bytes are t

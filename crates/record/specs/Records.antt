@@ -10,7 +10,7 @@
 --   step_of       the step, at the sheet's first byte or behind it. Places count from the first byte left
 use Rattle.std.specs.Prelude.{Bool, true, not, ◌&&◌, List, [], ◌∷◌, ℕ, suc, ltb, leb, eqb, length, get_or, ℤ, nat_abs}
 use Rattle.refusal.specs.declared.Refusal.TheVariants as refusal
-use Rattle.refusal.specs.Answers.{if◌then◌else◌}
+use Rattle.refusal.specs.Answers.{when◌then◌else◌}
 use Rattle.curve.specs.Sizes.{coordinate_reach}
 use Rattle.record.specs.Numbers.{size_of, coordinates}
 use Rattle.record.specs.declared.kinds.Kind.{Kind}
@@ -31,11 +31,11 @@ erased_length = 65535
 
 abbrev pub erased_bytes : List ℕ → ℕ
 erased_bytes [] = 0
-erased_bytes (b ∷ bytes) = if eqb b erased then suc (erased_bytes bytes) else 0
+erased_bytes (b ∷ bytes) = when eqb b erased then suc (erased_bytes bytes) else 0
 
 -- what an erased length begins: every byte left must be FF
 unfoldable pub erased_end : ℕ → ℕ → Step
-erased_end erased_first left = if ltb erased_first left then Fault refusal.Leftover erased_first else Ends
+erased_end erased_first left = when ltb erased_first left then Fault refusal.Leftover erased_first else Ends
 
 unfoldable pub erased_step : List ℕ → Step
 erased_step rest = erased_end (erased_bytes rest) (length rest)
@@ -45,10 +45,10 @@ named k rest = eqb (get_or rest 2 0) (get_or (row_of k).name 0 0) && eqb (get_or
 
 unfoldable pub kind_in : List Kind → List ℕ → Named
 kind_in [] rest = named_as.Unknown
-kind_in (k ∷ ks) rest = if named k rest then named_as.Kind k else kind_in ks rest
+kind_in (k ∷ ks) rest = when named k rest then named_as.Kind k else kind_in ks rest
 
 unfoldable pub may_stand : Bool → Kind → Bool
-may_stand first k = if first then (row_of k).first else not (row_of k).first
+may_stand first k = when first then (row_of k).first else not (row_of k).first
 
 unfoldable pub all_within : List ℤ → Bool
 all_within [] = true
@@ -56,19 +56,19 @@ all_within (x ∷ xs) = leb (nat_abs x) coordinate_reach && all_within xs
 
 unfoldable pub sized_step : Kind → List ℕ → Step
 sized_step k rest =
-    if not (eqb (size_of rest) (row_of k).size) then Fault refusal.Length 0
-    else if ltb (length rest) (row_of k).size then Fault refusal.Cut 0
-    else if not (all_within (coordinates (words k) rest 4)) then Fault refusal.Range 0
+    when not (eqb (size_of rest) (row_of k).size) then Fault refusal.Length 0
+    else when ltb (length rest) (row_of k).size then Fault refusal.Cut 0
+    else when not (all_within (coordinates (words k) rest 4)) then Fault refusal.Range 0
     else Record k
 
 abbrev pub kind_step : Bool → List ℕ → Named → Step
-kind_step first rest (named_as.Kind k) = if may_stand first k then sized_step k rest else Fault refusal.Kind 0
+kind_step first rest (named_as.Kind k) = when may_stand first k then sized_step k rest else Fault refusal.Kind 0
 kind_step first rest named_as.Unknown = Fault refusal.Kind 0
 
 unfoldable pub step_of : Bool → List ℕ → Step
 step_of first rest =
-    if eqb (length rest) 0 then Ends
-    else if eqb (length rest) 1 then (if eqb (get_or rest 0 0) erased then Ends else Fault refusal.Cut 0)
-    else if eqb (size_of rest) erased_length then erased_step rest
-    else if ltb (length rest) 4 then Fault refusal.Cut 0
+    when eqb (length rest) 0 then Ends
+    else when eqb (length rest) 1 then (when eqb (get_or rest 0 0) erased then Ends else Fault refusal.Cut 0)
+    else when eqb (size_of rest) erased_length then erased_step rest
+    else when ltb (length rest) 4 then Fault refusal.Cut 0
     else kind_step first rest (kind_in kinds rest)

@@ -17,13 +17,13 @@ use native.Mathlib.Omega.{arith}
 use Rattle.refusal.specs.declared.Refusal.{Refusal}
 use Rattle.refusal.specs.declared.Fault.{Fault}
 use Rattle.refusal.specs.Table.{Cause, First, number_of}
-use Rattle.refusal.specs.Answers.{Answer, refused, given, refuse, with_given, if◌then◌else◌, FirstOr}
+use Rattle.refusal.specs.Answers.{Answer, refused, given, refuse, with_given, when◌then◌else◌, FirstOr}
 use Rattle.refusal.proofs.Laws.{number_some, number_once, first_once}
 
 -- ---- choices
 
-pub by_test {ℓ κ} : {X : Type ℓ} (P : X → Type κ) (b : Bool) {x y : X} → (b ≡ true → P x) → (b ≡ false → P y) → P (if b then x else y)
-unfolding if◌then◌else◌
+pub by_test {ℓ κ} : {X : Type ℓ} (P : X → Type κ) (b : Bool) {x y : X} → (b ≡ true → P x) → (b ≡ false → P y) → P (when b then x else y)
+unfolding when◌then◌else◌
 by_test P true f g = f refl
 by_test P false f g = g refl
 

@@ -3,7 +3,7 @@
 --   refuse                          a refusal by its name and its place
 --   number_of_answer                  01's number: 0 where something is given
 --   with_given, then_given          what is made of what is given; a refusal stays
---   if_then_else_                   a choice by a test, so that definitions read as 01 writes them: in order, the first test that holds decides
+--   when◌then◌else◌                   a choice by a test, so that definitions read as 01 writes them: in order, the first test that holds decides
 --   FirstOr                         the promise: the first of these causes that holds, or else this answer
 use Rattle.std.specs.Prelude.{◌≡◌, Bool, true, false, List, ℕ}
 use Rattle.refusal.specs.declared.Refusal.{Refusal}
@@ -29,10 +29,10 @@ abbrev pub with_given : {A B : Type 0} → (A → B) → Answer A → Answer B
 with_given f (refused x) = refused x
 with_given f (given a) = given (f a)
 
-infixr 5 if◌then◌else◌
-unfoldable pub if◌then◌else◌ {ℓ} : {X : Type ℓ} → Bool → X → X → X
-if true then x else y = x
-if false then x else y = y
+infixr 5 when◌then◌else◌
+unfoldable pub when◌then◌else◌ {ℓ} : {X : Type ℓ} → Bool → X → X → X
+when true then x else y = x
+when false then x else y = y
 
 -- a cause has no place in a sheet
 abbrev pub FirstOr : {A : Type 0} → List Cause → (A → Type 0) → Answer A → Type 0

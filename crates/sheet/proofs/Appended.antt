@@ -12,7 +12,7 @@ use native.Mathlib.Omega.{arith}
 use lib.ListN.{length, take, drop, length-append, length-drop}
 use lib.Seq.{get_or-drop, take_at, drop-append-add}
 use Rattle.refusal.specs.declared.Fault.{Fault}
-use Rattle.refusal.specs.Answers.{given, with_given, if◌then◌else◌}
+use Rattle.refusal.specs.Answers.{given, with_given, when◌then◌else◌}
 use Rattle.pair.specs.declared.Pair.{Pair}
 use Rattle.curve.specs.declared.Curve.{Curve}
 use Rattle.curve.specs.declared.Curve.TheVariants as form
@@ -102,8 +102,8 @@ survey_after s c t sound own l e =
     (d.0, ap survey d.2 ∙ appended s (entry_of (survey s).end c) sound refl (ap (λ (b : Bool). may_stand b (kind_of c)) (mission_after (survey s).records own) ∙ curve_may c) (record_whole c d.0) fits)
 
 pub curves-one : (es : List Entry) (place : ℕ) (c : Curve) → curves (es ++ (entry_of place c ∷ [])) ≡ curves es ++ (entry_of place c ∷ [])
-unfolding if◌then◌else◌
-curves-one es place c = curves-append es (entry_of place c ∷ []) ∙ ap (λ (b : Bool). curves es ++ (if b then entry_of place c ∷ [] else [])) (is-curve c)
+unfolding when◌then◌else◌
+curves-one es place c = curves-append es (entry_of place c ∷ []) ∙ ap (λ (b : Bool). curves es ++ (when b then entry_of place c ∷ [] else [])) (is-curve c)
 
 -- ---- the promise
 

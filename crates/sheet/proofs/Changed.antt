@@ -11,7 +11,7 @@ use borrow.Author.Tests.{lt-ltb, le-ltb}
 use Rattle.refusal.specs.declared.Refusal.{Refusal}
 use Rattle.refusal.specs.declared.Refusal.TheVariants as refusal
 use Rattle.refusal.specs.declared.Fault.{Fault}
-use Rattle.refusal.specs.Answers.{Answer, refused, given, refuse, then_given, if◌then◌else◌}
+use Rattle.refusal.specs.Answers.{Answer, refused, given, refuse, then_given, when◌then◌else◌}
 use Rattle.curve.specs.declared.Curve.{Curve}
 use Rattle.curve.specs.Curves.{points_of}
 use Rattle.record.specs.declared.kinds.Kind.TheVariants.{Header}
@@ -36,23 +36,23 @@ refused_as {s} e g = record { says = ap refused g ∙ sym e; leaves = sym (ap (b
 
 module _ (s : List ℕ) (m : ℕ) where
   pub start-long : {f : Fault} → longest < length s → f ≡ record { refusal = refusal.TooLong; place = 0 } → Changes s (starting s m) s (change.Refused f)
-  unfolding starting if◌then◌else◌
+  unfolding starting when◌then◌else◌
   start-long l = refused_as (rw (lt-ltb _ _ l))
 
   pub start_narrow : {f : Fault} → length s ≤ longest → length s < (row_of Header).size → f ≡ record { refusal = refusal.Room; place = 0 } → Changes s (starting s m) s (change.Refused f)
-  unfolding starting if◌then◌else◌
+  unfolding starting when◌then◌else◌
   start_narrow l n = refused_as (rw (le-ltb _ _ l, lt-ltb _ _ n))
 
   pub start_done : {t : List ℕ} → length s ≤ longest → (row_of Header).size ≤ length s → t ≡ header_of m ++ replicate (length s - (row_of Header).size) erased → Changes s (starting s m) t change.Done
-  unfolding starting if◌then◌else◌
+  unfolding starting when◌then◌else◌
   start_done l n e = done_as (rw (le-ltb _ _ l, le-ltb _ _ n) (ap given (sym e)))
 
 pub erase-long : (s : List ℕ) {f : Fault} → longest < length s → f ≡ record { refusal = refusal.TooLong; place = 0 } → Changes s (erasing s) s (change.Refused f)
-unfolding erasing if◌then◌else◌
+unfolding erasing when◌then◌else◌
 erase-long s l = refused_as (rw (lt-ltb _ _ l))
 
 pub erase_short : (s : List ℕ) {t : List ℕ} → length s ≤ longest → t ≡ replicate (length s) erased → Changes s (erasing s) t change.Done
-unfolding erasing if◌then◌else◌
+unfolding erasing when◌then◌else◌
 erase_short s l e = done_as (rw (le-ltb _ _ l) (ap given (sym e)))
 
 module _ (s : List ℕ) (c : Curve) where

@@ -20,7 +20,7 @@ use lib.ListN.{length}
 use borrow.Author.Tests.{not-true, not-false, eqb-true, eqb-false, eq-eqb, ltb-true, ltb-false}
 use Rattle.refusal.specs.declared.Refusal.TheVariants as refusal
 use Rattle.refusal.specs.Table.{Cause, First}
-use Rattle.refusal.specs.Answers.{Answer, refused, given, refuse, number_of_answer, then_given, with_given, if◌then◌else◌}
+use Rattle.refusal.specs.Answers.{Answer, refused, given, refuse, number_of_answer, then_given, with_given, when◌then◌else◌}
 use Rattle.refusal.proofs.Answers.{by_test, no_answer, given_once}
 use Rattle.curve.specs.declared.Curve.{Curve}
 use Rattle.curve.specs.Curves.{points_of, InRange}
@@ -96,8 +96,8 @@ nth_order (suc (suc k)) (e ∷ es) =
 
 -- the mission decides first
 mission_order : (expected : ℕ) (own : Mission) (cs : List Cause) (a : Answer Entry) → First cs (number_of_answer a)
-    → First (other_mission expected own ∷ cs) (number_of_answer (if is_other expected own then refuse refusal.OtherMission 0 else a))
-unfolding if◌then◌else◌
+    → First (other_mission expected own ∷ cs) (number_of_answer (when is_other expected own then refuse refusal.OtherMission 0 else a))
+unfolding when◌then◌else◌
 mission_order expected mission.None cs a h = inr ((λ x. let z : ◌≡◌ {A = ℕ} 0 1 = cc x.1 in omega arith), h)
 mission_order expected (mission.Number m) cs a h =
     by_test (λ (b : Answer Entry). First (other_mission expected (mission.Number m) ∷ cs) (number_of_answer b)) _
@@ -180,7 +180,7 @@ module _ (s : List ℕ) (sound : (survey s).ending ≡ Sound) where
     pub read_old : (expected number : ℕ) → (number ≡ suc (length (curves (survey s).records)) → ⊥) → chosen expected number t ≡ chosen expected number s
     read_old expected number n =
         chosen-sound t expected number sound_after
-        ∙ (λ i. if is_other expected (append-mission i) then refuse refusal.OtherMission 0 else same i)
+        ∙ (λ i. when is_other expected (append-mission i) then refuse refusal.OtherMission 0 else same i)
         ∙ sym (chosen-sound s expected number sound)
       where
         same : numbered number t ≡ numbered number s

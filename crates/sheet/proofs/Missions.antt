@@ -15,7 +15,7 @@ use mir.Syntax.{w8}
 use mir.Val.{Fits}
 use Rattle.refusal.specs.declared.Refusal.TheVariants as refusal
 use Rattle.refusal.specs.declared.Fault.{Fault}
-use Rattle.refusal.specs.Answers.{Answer, refused, given, refuse, then_given, if◌then◌else◌}
+use Rattle.refusal.specs.Answers.{Answer, refused, given, refuse, then_given, when◌then◌else◌}
 use Rattle.refusal.proofs.Answers.{by_test, by_order, no_answer}
 use Rattle.record.specs.declared.kinds.Kind.{Kind}
 use Rattle.record.specs.declared.kinds.Kind.TheVariants.{Header}
@@ -109,22 +109,22 @@ mission_after (x ∷ es) e = refl
 
 module _ (s : List ℕ) (expected number : ℕ) where
   pub chosen-sound : (survey s).ending ≡ Sound →
-      chosen expected number s ≡ (if is_other expected (mission_of (survey s).records) then refuse refusal.OtherMission 0 else numbered number s)
+      chosen expected number s ≡ (when is_other expected (mission_of (survey s).records) then refuse refusal.OtherMission 0 else numbered number s)
   chosen-sound e =
-      ap (λ (how : Ending). then_given (λ es. if is_other expected (mission_of es) then refuse refusal.OtherMission 0 else nth number (curves es)) (soundly how (survey s).records)) e
-      ∙ ap (λ (a : Answer Entry). if is_other expected (mission_of (survey s).records) then refuse refusal.OtherMission 0 else a) (sym (numbered-sound s number e))
+      ap (λ (how : Ending). then_given (λ es. when is_other expected (mission_of es) then refuse refusal.OtherMission 0 else nth number (curves es)) (soundly how (survey s).records)) e
+      ∙ ap (λ (a : Answer Entry). when is_other expected (mission_of (survey s).records) then refuse refusal.OtherMission 0 else a) (sym (numbered-sound s number e))
 
   pub chosen-own : (survey s).ending ≡ Sound → is_other expected (mission_of (survey s).records) ≡ false → chosen expected number s ≡ numbered number s
-  unfolding if◌then◌else◌
-  chosen-own e o = chosen-sound e ∙ ap (λ (b : Bool). if b then refuse refusal.OtherMission 0 else numbered number s) o
+  unfolding when◌then◌else◌
+  chosen-own e o = chosen-sound e ∙ ap (λ (b : Bool). when b then refuse refusal.OtherMission 0 else numbered number s) o
 
   pub chosen_other : (survey s).ending ≡ Sound → is_other expected (mission_of (survey s).records) ≡ true → chosen expected number s ≡ refuse refusal.OtherMission 0
-  unfolding if◌then◌else◌
-  chosen_other e o = chosen-sound e ∙ ap (λ (b : Bool). if b then refuse refusal.OtherMission 0 else numbered number s) o
+  unfolding when◌then◌else◌
+  chosen_other e o = chosen-sound e ∙ ap (λ (b : Bool). when b then refuse refusal.OtherMission 0 else numbered number s) o
 
   pub chosen-faulty : {f : Fault} → (survey s).ending ≡ Faulty f → chosen expected number s ≡ refused f
   chosen-faulty e =
-      ap (λ (how : Ending). then_given (λ es. if is_other expected (mission_of es) then refuse refusal.OtherMission 0 else nth number (curves es)) (soundly how (survey s).records)) e
+      ap (λ (how : Ending). then_given (λ es. when is_other expected (mission_of es) then refuse refusal.OtherMission 0 else nth number (curves es)) (soundly how (survey s).records)) e
 
   pub chosen-numbered : {e : Entry} → chosen expected number s ≡ given e → (numbered number s ≡ given e) × (is_other expected (mission_of (survey s).records) ≡ false)
   chosen-numbered {e} q = by (survey s).ending refl

@@ -8,7 +8,7 @@ use mathlib.Core.List.{List, [], ◌∷◌, map}
 use Prim.Native.Nat.{ℕ, zero, suc, ◌+◌}
 use native.Mathlib.Omega.{arith}
 use lib.ListN.{length, drop}
-use Rattle.refusal.specs.Answers.{if◌then◌else◌}
+use Rattle.refusal.specs.Answers.{when◌then◌else◌}
 use Rattle.record.specs.declared.steps.Step.{Step}
 use Rattle.record.specs.declared.steps.Step.TheVariants as step
 use Rattle.record.specs.Kinds.{row_of}
@@ -49,13 +49,13 @@ unfolding reads
 reads-moved first d at rest = from-moved d (suc (length rest)) first at rest
 
 pub curves-moved : (d : ℕ) (es : List Entry) → length (curves (map (moved_entry d) es)) ≡ length (curves es)
-unfolding if◌then◌else◌
+unfolding when◌then◌else◌
 curves-moved d [] = refl
 curves-moved d (e ∷ es) = by (row_of e.kind).curve (curves-moved d es)
   where
     later : List Entry
     later = curves (map (moved_entry d) es)
 
-    by : (b : Bool) → length later ≡ length (curves es) → length (if b then moved_entry d e ∷ later else later) ≡ length (if b then e ∷ curves es else curves es)
+    by : (b : Bool) → length later ≡ length (curves es) → length (when b then moved_entry d e ∷ later else later) ≡ length (when b then e ∷ curves es else curves es)
     by true q = ap suc q
     by false q = q

@@ -16,7 +16,7 @@ use lib.Seq.{take_all, drop-drop}
 use Rattle.refusal.specs.declared.Refusal.{Refusal}
 use Rattle.refusal.specs.declared.Refusal.TheVariants as refusal
 use Rattle.refusal.specs.declared.Fault.{Fault}
-use Rattle.refusal.specs.Answers.{if◌then◌else◌}
+use Rattle.refusal.specs.Answers.{when◌then◌else◌}
 use Rattle.record.specs.declared.kinds.Kind.{Kind}
 use Rattle.record.specs.declared.steps.Step.TheVariants as step
 use Rattle.record.specs.Kinds.{row_of}
@@ -108,12 +108,12 @@ module _ {s : List ℕ} {first : Bool} {number : ℕ} {now_first : Bool} {at cou
         }
 
     one_more : (row_of k).curve ≡ true → curves (p.records ++ (here ∷ [])) ≡ curves p.records ++ (here ∷ [])
-    unfolding if◌then◌else◌
-    one_more c = curves-append p.records (here ∷ []) ∙ ap (λ (b : Bool). curves p.records ++ (if b then here ∷ [] else [])) c
+    unfolding when◌then◌else◌
+    one_more c = curves-append p.records (here ∷ []) ∙ ap (λ (b : Bool). curves p.records ++ (when b then here ∷ [] else [])) c
 
     none_more : (row_of k).curve ≡ false → curves (p.records ++ (here ∷ [])) ≡ curves p.records
-    unfolding if◌then◌else◌
-    none_more c = curves-append p.records (here ∷ []) ∙ ap (λ (b : Bool). curves p.records ++ (if b then here ∷ [] else [])) c ∙ append-nil (curves p.records)
+    unfolding when◌then◌else◌
+    none_more c = curves-append p.records (here ∷ []) ∙ ap (λ (b : Bool). curves p.records ++ (when b then here ∷ [] else [])) c ∙ append-nil (curves p.records)
 
     counted : (row_of k).curve ≡ true → count + 1 ≡ length (curves (p.records ++ (here ∷ [])))
     counted c = omega (arith, p.count_is, ap length (one_more c), length-append (curves p.records) (here ∷ []))

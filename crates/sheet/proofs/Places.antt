@@ -12,7 +12,7 @@ use native.Mathlib.Omega.{arith}
 use native.Mathlib.Nat.{not-suc-le-zero, le_of_suc-le-suc}
 use lib.ListN.{length, take, drop, get_or, length-drop}
 use lib.Seq.{get_or-take}
-use Rattle.refusal.specs.Answers.{Answer, refused, given, with_given, if◌then◌else◌}
+use Rattle.refusal.specs.Answers.{Answer, refused, given, with_given, when◌then◌else◌}
 use Rattle.refusal.proofs.Answers.{no_answer, given_once}
 use Rattle.curve.specs.declared.Curve.{Curve}
 use Rattle.record.specs.declared.kinds.Kind.{Kind}
@@ -74,16 +74,16 @@ module _ {s : List ℕ} {number place long : ℕ} (h : Stands s number place lon
 
 -- what may stand behind the header is a curve
 later_curve : (k : Kind) → may_stand false k ≡ true → (row_of k).curve ≡ true
-unfolding may_stand if◌then◌else◌
+unfolding may_stand when◌then◌else◌
 later_curve Header m = m
 later_curve Cubic m = refl
 later_curve Quintic m = refl
 
 later_curves : (at : ℕ) (es : List Entry) → Listed false at es → curves es ≡ es
-unfolding if◌then◌else◌
+unfolding when◌then◌else◌
 later_curves at [] w = refl
 later_curves at (e ∷ es) w =
-    ap (λ (b : Bool). if b then e ∷ curves es else curves es) (later_curve e.kind w.1) ∙ ap (λ (l : List Entry). e ∷ l) (later_curves (at + length e.bytes) es w.3)
+    ap (λ (b : Bool). when b then e ∷ curves es else curves es) (later_curve e.kind w.1) ∙ ap (λ (l : List Entry). e ∷ l) (later_curves (at + length e.bytes) es w.3)
 
 nth-listed : (k : ℕ) (es : List Entry) → k < length es → (e : Entry) × (nth (suc k) es ≡ given e)
 nth-listed k [] l = absurd (not-suc-le-zero l)
@@ -105,12 +105,12 @@ next_place first at (suc zero) (x ∷ es) {e} w p q =
 next_place first at (suc (suc k)) (x ∷ es) w p q = next_place false (at + length x.bytes) (suc k) es w.3 p q
 
 curves-behind : (es : List Entry) → Listed true 0 es → Listed false (row_of Header).size (curves es)
-unfolding if◌then◌else◌
+unfolding when◌then◌else◌
 curves-behind [] w = tt
 curves-behind (e ∷ es) w =
     let header = first-header e.kind w.1 in
     let none : curves (e ∷ es) ≡ es =
-    ap (λ (k : Kind). if (row_of k).curve then e ∷ curves es else curves es) header ∙ later_curves (0 + length e.bytes) es w.3
+    ap (λ (k : Kind). when (row_of k).curve then e ∷ curves es else curves es) header ∙ later_curves (0 + length e.bytes) es w.3
     in
     let at : 0 + length e.bytes ≡ (row_of Header).size = omega (arith, w.2.long, ap (λ (k : Kind). (row_of k).size) header) in
     subst (Listed false (row_of Header).size) (sym none) (subst (λ (n : ℕ). Listed false n es) at w.3)

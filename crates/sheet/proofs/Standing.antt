@@ -14,7 +14,7 @@ use native.Mathlib.Omega.{arith}
 use lib.ListN.{length, take, drop, length-append}
 use lib.Seq.{take_at, drop_at}
 use Rattle.refusal.specs.declared.Fault.{Fault}
-use Rattle.refusal.specs.Answers.{refused, given, then_given, if◌then◌else◌}
+use Rattle.refusal.specs.Answers.{refused, given, then_given, when◌then◌else◌}
 use Rattle.refusal.proofs.Answers.{by_test, by_order, no_answer, given_once}
 use Rattle.record.specs.Kinds.{row_of}
 use Rattle.record.proofs.Shown.{Whole}
@@ -63,11 +63,11 @@ all_stand s =
 -- ---- the curves
 
 pub curves-append : (es fs : List Entry) → curves (es ++ fs) ≡ curves es ++ curves fs
-unfolding if◌then◌else◌
+unfolding when◌then◌else◌
 curves-append [] fs = refl
 curves-append (e ∷ es) fs = by (row_of e.kind).curve (curves-append es fs)
   where
-    by : (b : Bool) → curves (es ++ fs) ≡ curves es ++ curves fs → (if b then e ∷ curves (es ++ fs) else curves (es ++ fs)) ≡ (if b then e ∷ curves es else curves es) ++ curves fs
+    by : (b : Bool) → curves (es ++ fs) ≡ curves es ++ curves fs → (when b then e ∷ curves (es ++ fs) else curves (es ++ fs)) ≡ (when b then e ∷ curves es else curves es) ++ curves fs
     by true q = ap (λ (l : List Entry). e ∷ l) q
     by false q = q
 

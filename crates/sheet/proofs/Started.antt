@@ -17,7 +17,7 @@ use native.Mathlib.Omega.{arith}
 use lib.ListN.{length}
 use borrow.Author.Tests.{eqb-true, ltb-false, not-false, ne_eqb, eq-eqb}
 use Rattle.refusal.specs.declared.Refusal.TheVariants as refusal
-use Rattle.refusal.specs.Answers.{Answer, refused, given, refuse, then_given, with_given, if◌then◌else◌}
+use Rattle.refusal.specs.Answers.{Answer, refused, given, refuse, then_given, with_given, when◌then◌else◌}
 use Rattle.refusal.proofs.Answers.{by_test, no_answer, given_once}
 use Rattle.pair.specs.declared.Pair.{Pair}
 use Rattle.curve.specs.declared.Curve.{Curve}
@@ -72,9 +72,9 @@ none-erased s sound none =
     by (x ∷ es) e tail parts last = let z : ◌≡◌ {A = ℕ} 0 1 = cc in absurd (omega arith)
 
 pub erased-reads : (s : List ℕ) → length s ≤ longest → AllErased s → (expected number : ℕ) → chosen expected number s ≡ refuse refusal.Number 0
-unfolding if◌then◌else◌
+unfolding when◌then◌else◌
 erased-reads s l all expected number =
-    ap (λ (v : Survey). then_given (λ es. if is_other expected (mission_of es) then refuse refusal.OtherMission 0 else nth number (curves es)) (soundly v.ending v.records))
+    ap (λ (v : Survey). then_given (λ es. when is_other expected (mission_of es) then refuse refusal.OtherMission 0 else nth number (curves es)) (soundly v.ending v.records))
     (erased-found s l all)
 
 -- ---- start
@@ -147,7 +147,7 @@ in_sound s e = ap (λ (how : Ending). with_given (λ es. map points_of_entry (cu
 
 module _ (s : List ℕ) (m : ℕ) (cs : List Curve) (t u : List ℕ) (started : starting s m ≡ given t) (appended : appending_all t cs ≡ given u) where
   pub started_lists : Bears u m (map points_of cs)
-  unfolding curves_in if◌then◌else◌
+  unfolding curves_in when◌then◌else◌
   started_lists =
       let v = start-listed s m t started in
       all_more t m [] cs u

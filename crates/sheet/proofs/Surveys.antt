@@ -29,7 +29,7 @@ use borrow.Author.Tests.{lt-ltb, le-ltb}
 use Rattle.refusal.specs.declared.Refusal.{Refusal}
 use Rattle.refusal.specs.declared.Refusal.TheVariants as refusal
 use Rattle.refusal.specs.declared.Fault.{Fault}
-use Rattle.refusal.specs.Answers.{refused, given, if◌then◌else◌}
+use Rattle.refusal.specs.Answers.{refused, given, when◌then◌else◌}
 use Rattle.refusal.proofs.Answers.{by_order, no_answer, given_once, refused_once}
 use Rattle.record.specs.declared.kinds.Kind.{Kind}
 use Rattle.record.specs.declared.steps.Step.{Step}
@@ -99,11 +99,11 @@ reads_stops first at rest n = by (step_of first rest) refl
     by (step.Record k) e = absurd (n k e)
 
 pub survey-long : (first : Bool) (s : List ℕ) → longest < length s → survey_of first s ≡ nothing 0 (Faulty (record { refusal = refusal.TooLong; place = 0 }))
-unfolding survey_of if◌then◌else◌
+unfolding survey_of when◌then◌else◌
 survey-long first s l = rw (lt-ltb _ _ l)
 
 pub survey_short : (first : Bool) (s : List ℕ) → length s ≤ longest → survey_of first s ≡ reads first 0 s
-unfolding survey_of reads if◌then◌else◌
+unfolding survey_of reads when◌then◌else◌
 survey_short first s l = rw (le-ltb _ _ l)
 
 -- ---- the records one after another

@@ -12,7 +12,7 @@
 use Rattle.std.specs.Prelude.{◌≡◌, List, [], ◌∷◌, ◌++◌, map, ℕ, ◌+◌, ◌-◌, ltb, length, replicate}
 use Rattle.std.specs.Borrow.{Bor}
 use Rattle.refusal.specs.declared.Refusal.TheVariants as refusal
-use Rattle.refusal.specs.Answers.{Answer, refused, given, refuse, then_given, with_given, if◌then◌else◌}
+use Rattle.refusal.specs.Answers.{Answer, refused, given, refuse, then_given, with_given, when◌then◌else◌}
 use Rattle.pair.specs.declared.Pair.{Pair}
 use Rattle.curve.specs.declared.Curve.{Curve}
 use Rattle.curve.specs.Curves.{points_of}
@@ -102,8 +102,8 @@ pub record Changes (s : List ℕ) (asked : Answer (List ℕ)) (t : List ℕ) (r 
 -- the header comes first, and whatever stood behind it is erased
 unfoldable pub starting : List ℕ → ℕ → Answer (List ℕ)
 starting s m =
-    if ltb longest (length s) then refuse refusal.TooLong 0
-    else if ltb (length s) (row_of Header).size then refuse refusal.Room 0
+    when ltb longest (length s) then refuse refusal.TooLong 0
+    else when ltb (length s) (row_of Header).size then refuse refusal.Room 0
     else given (header_of m ++ replicate (length s - (row_of Header).size) erased)
 
 -- start
@@ -111,7 +111,7 @@ abbrev pub StartsFor : List ℕ → ℕ → List ℕ → Change → Type 0
 StartsFor s m t r = Changes s (starting s m) t r
 
 unfoldable pub erasing : List ℕ → Answer (List ℕ)
-erasing s = if ltb longest (length s) then refuse refusal.TooLong 0 else given (replicate (length s) erased)
+erasing s = when ltb longest (length s) then refuse refusal.TooLong 0 else given (replicate (length s) erased)
 
 -- erase
 abbrev pub Erases : List ℕ → List ℕ → Change → Type 0

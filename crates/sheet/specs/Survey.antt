@@ -16,7 +16,7 @@
 --   chosen           curve `number` of a sheet of the expected mission
 use Rattle.std.specs.Prelude.{Bool, true, false, not, List, [], ◌∷◌, ℕ, zero, suc, ◌+◌, ltb, eqb, length, take, drop}
 use Rattle.refusal.specs.declared.Refusal.TheVariants as refusal
-use Rattle.refusal.specs.Answers.{Answer, refused, given, refuse, then_given, if◌then◌else◌}
+use Rattle.refusal.specs.Answers.{Answer, refused, given, refuse, then_given, when◌then◌else◌}
 use Rattle.record.specs.declared.kinds.Kind.{Kind}
 use Rattle.record.specs.declared.steps.Step.{Step}
 use Rattle.record.specs.declared.steps.Step.TheVariants as step
@@ -60,7 +60,7 @@ survey_from (suc most) first at rest = found at rest (λ size. survey_from most 
 -- there are no more records than bytes
 unfoldable pub survey_of : Bool → List ℕ → Survey
 survey_of first s =
-    if ltb longest (length s) then nothing 0 (Faulty (record { refusal = refusal.TooLong; place = 0 })) else survey_from (suc (length s)) first 0 s
+    when ltb longest (length s) then nothing 0 (Faulty (record { refusal = refusal.TooLong; place = 0 })) else survey_from (suc (length s)) first 0 s
 
 abbrev pub survey : List ℕ → Survey
 survey s = survey_of true s
@@ -74,7 +74,7 @@ outcome s = soundly (survey s).ending (survey s).records
 
 abbrev pub curves : List Entry → List Entry
 curves [] = []
-curves (e ∷ es) = if (row_of e.kind).curve then e ∷ curves es else curves es
+curves (e ∷ es) = when (row_of e.kind).curve then e ∷ curves es else curves es
 
 abbrev pub nth : ℕ → List Entry → Answer Entry
 nth number [] = refuse refusal.Number 0
@@ -97,4 +97,4 @@ is_other expected (mission.Number m) = not (eqb m expected)
 
 abbrev pub chosen : ℕ → ℕ → List ℕ → Answer Entry
 chosen expected number s =
-    then_given (λ es. if is_other expected (mission_of es) then refuse refusal.OtherMission 0 else nth number (curves es)) (outcome s)
+    then_given (λ es. when is_other expected (mission_of es) then refuse refusal.OtherMission 0 else nth number (curves es)) (outcome s)

@@ -9,7 +9,7 @@ use lib.ListN.{length}
 use borrow.Author.Tests.{le-ltb}
 use Rattle.refusal.specs.declared.Refusal.{Refusal}
 use Rattle.refusal.specs.declared.Fault.{Fault}
-use Rattle.refusal.specs.Answers.{if◌then◌else◌}
+use Rattle.refusal.specs.Answers.{when◌then◌else◌}
 use Rattle.refusal.proofs.Answers.{by_test}
 use Rattle.record.specs.declared.steps.Step.{Step}
 use Rattle.record.specs.declared.steps.Step.TheVariants as step
@@ -26,7 +26,7 @@ module _ {st : State} (h : Standing st) where
   front_long = held-long st (seven-words st h.front)
 
   pub answer_by_lem : answer_in st ≡ answer_with st (survey_of (first_in st) (front_in st)).ending
-  unfolding answer_in if◌then◌else◌
+  unfolding answer_in when◌then◌else◌
   answer_by_lem = rw (le-ltb longest st.count h.short)
 
   pub fault_within : (f : Fault) → (survey_of (first_in st) (front_in st)).ending ≡ Faulty f → st.place + f.place ≤ longest

@@ -20,7 +20,7 @@ use lib.Dec.{eqb}
 use lib.ListN.{length, take, drop, length-append, length-take}
 use lib.Seq.{take_all, take-append-le, take-append-add}
 use borrow.Author.Tests.{lt-ltb, le-ltb, eq-eqb, ne_eqb}
-use Rattle.refusal.specs.Answers.{if◌then◌else◌}
+use Rattle.refusal.specs.Answers.{when◌then◌else◌}
 use Rattle.refusal.proofs.Answers.{by_order}
 use Rattle.record.specs.Numbers.{AllBytes}
 use Rattle.record.specs.Kinds.{row_of, longest_record}
@@ -47,11 +47,11 @@ mission_found s = mission_number (mission_of (survey s).records)
 
 module _ (s : List ℕ) (ended : Bool) where
   pub state-long : longest < length s → state_of s ended ≡ keeping ended (suc longest) 0 0 0 []
-  unfolding state_of if◌then◌else◌
+  unfolding state_of when◌then◌else◌
   state-long l = rw (lt-ltb _ _ l)
 
   pub state_short : length s ≤ longest → state_of s ended ≡ keeping ended (length s) (mission_found s) (count_of (survey s).records) (survey s).end (drop (survey s).end s)
-  unfolding state_of if◌then◌else◌
+  unfolding state_of when◌then◌else◌
   state_short l = rw (le-ltb _ _ l)
 
 pub state_flag : (st : State) (s : List ℕ) (ended : Bool) → IsOf st s ended → st.ended ≡ number ended
@@ -96,11 +96,11 @@ first-listed (e ∷ es) {end} w q = sym (ne_eqb end 0 (λ z. omega (arith, lengt
 pub first_of : (s : List ℕ) → length s ≤ longest → first_after true (survey s).records ≡ eqb (survey s).end 0
 first_of s l = let p = sheet_parts true s l in first-listed (survey s).records p.listed (p.end_is ∙ omega arith)
 
-pub mission_of_lem : (s : List ℕ) → length s ≤ longest → (if eqb (survey s).end 0 then mission.None else mission.Number (mission_found s)) ≡ mission_of (survey s).records
-unfolding if◌then◌else◌
-mission_of_lem s l = ap (λ (b : Bool). if b then mission.None else mission.Number (mission_found s)) (sym (first_of s l)) ∙ by (survey s).records
+pub mission_of_lem : (s : List ℕ) → length s ≤ longest → (when eqb (survey s).end 0 then mission.None else mission.Number (mission_found s)) ≡ mission_of (survey s).records
+unfolding when◌then◌else◌
+mission_of_lem s l = ap (λ (b : Bool). when b then mission.None else mission.Number (mission_found s)) (sym (first_of s l)) ∙ by (survey s).records
   where
-    by : (es : List Entry) → (if first_after true es then mission.None else mission.Number (mission_number (mission_of es))) ≡ mission_of es
+    by : (es : List Entry) → (when first_after true es then mission.None else mission.Number (mission_number (mission_of es))) ≡ mission_of es
     by [] = refl
     by (e ∷ es) = refl
 

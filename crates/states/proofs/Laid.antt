@@ -11,7 +11,7 @@ use lib.ListN.{length, take, drop, replicate, length-append, length-replicate}
 use lib.Seq.{take_all, take-nil, drop_at}
 use lib.Dec.{eqb}
 use borrow.Author.Tests.{eqb-true, eqb-false, eq-eqb}
-use Rattle.refusal.specs.Answers.{if◌then◌else◌}
+use Rattle.refusal.specs.Answers.{when◌then◌else◌}
 use Rattle.refusal.proofs.Answers.{by_test, by_order}
 use Rattle.pair.specs.declared.Pair.{Pair}
 use Rattle.pair.specs.Pairs.{pair, PartsWithin}
@@ -66,7 +66,7 @@ stills_range (suc c) q = ((still-within, (still-within, (still-within, (still-wi
 -- what a curve more adds to the records
 module _ (at : ℕ) (c : Curve) (cs : List Curve) where
   one-count : count_of (laid at (c ∷ cs)) ≡ suc (count_of (laid (at + length (record_of c)) cs))
-  unfolding if◌then◌else◌
+  unfolding when◌then◌else◌
   one-count = by c
     where
       by : (c : Curve) → count_of (laid at (c ∷ cs)) ≡ suc (count_of (laid (at + length (record_of c)) cs))
@@ -94,7 +94,7 @@ laid-bytes at (c ∷ cs) = all_append (record_of c) (flat (laid (at + length (re
 
 -- what the header adds to the records
 header-count : (m : ℕ) (cs : List Curve) → count_of (laid_out m cs) ≡ count_of (laid (row_of kinds.Header).size cs)
-unfolding if◌then◌else◌
+unfolding when◌then◌else◌
 header-count m cs = refl
 
 header-bytes : (m : ℕ) → m < 65536 → AllBytes (header_of m)
@@ -131,7 +131,7 @@ lying st p = by p.records
 
 -- bytes FF and then zeros
 erased_then : (a b : ℕ) → erased_bytes (replicate a erased ++ replicate b 0) ≡ a
-unfolding if◌then◌else◌
+unfolding when◌then◌else◌
 erased_then a b =
     erased-append (replicate a erased) (replicate b 0)
     ∙ rw (erased-replicate a, length-replicate {A = ℕ} a erased, eq-eqb a a refl) (ap (λ (n : ℕ). a + n) (none b) ∙ omega arith)

@@ -12,7 +12,7 @@ use lib.Dec.{eqb}
 use lib.ListN.{length, get_or, take, drop, length-append, length-take, length-drop, take-append-drop}
 use lib.Seq.{get_or-take, drop-append-le, drop-append-add, drop-drop, drop_at}
 use borrow.Author.Tests.{lt-ltb, le-ltb, eqb-true, eqb-false}
-use Rattle.refusal.specs.Answers.{if◌then◌else◌}
+use Rattle.refusal.specs.Answers.{when◌then◌else◌}
 use Rattle.refusal.proofs.Answers.{by_test, by_order}
 use Rattle.record.specs.declared.kinds.Kind.{Kind}
 use Rattle.record.specs.declared.steps.Step.TheVariants as step
@@ -37,11 +37,11 @@ use Rattle.states.proofs.Fronts.{mission_found, state-long, state_short, take-ov
 pub count-append : (es rs : List Entry) → count_of (es ++ rs) ≡ count_of es + count_of rs
 count-append es rs = ap length (curves-append es rs) ∙ length-append (curves es) (curves rs)
 
-pub count-more : (e : Entry) (es : List Entry) → count_of (e ∷ es) ≡ (if (row_of e.kind).curve then 1 else 0) + count_of es
-unfolding if◌then◌else◌
+pub count-more : (e : Entry) (es : List Entry) → count_of (e ∷ es) ≡ (when (row_of e.kind).curve then 1 else 0) + count_of es
+unfolding when◌then◌else◌
 count-more e es = by (row_of e.kind).curve
   where
-    by : (b : Bool) → length (if b then e ∷ curves es else curves es) ≡ (if b then 1 else 0) + length (curves es)
+    by : (b : Bool) → length (when b then e ∷ curves es else curves es) ≡ (when b then 1 else 0) + length (curves es)
     by true = omega arith
     by false = omega arith
 
@@ -118,7 +118,7 @@ module _ (s part : List ℕ) (bytes : AllBytes s) (fits : length s + length part
       ∙ ap (λ (l : List Entry). mission_number (mission_of l)) (append-nil es)
       in
       let erases : erased_on st part ≡ erased_bytes (rest ++ part) =
-      ap (λ (n : ℕ). if eqb (erased_bytes rest) n then n + erased_bytes part else erased_bytes rest) (sym rest-long) ∙ sym (erased-append rest part)
+      ap (λ (n : ℕ). when eqb (erased_bytes rest) n then n + erased_bytes part else erased_bytes rest) (sym rest-long) ∙ sym (erased-append rest part)
       in
       sym (now_is (mission_found s) [] 0 own stops.0 (stops.1 ∙ omega arith)
       ∙ (λ i. record {
@@ -238,7 +238,7 @@ module _ (s part : List ℕ) (bytes : AllBytes s) (fits : length s + length part
   abbrev by_end : List ℕ → State
   by_end x =
       let v = survey_of first x in
-      if eqb v.end 0 then grown st part
+      when eqb v.end 0 then grown st part
       else after_records st (length s + length part) (mission_on st x) (count_of v.records) v.end (drop (v.end - behind_in st) part)
 
   by_end_lem : by_end seen ≡ state_of (s ++ part) false
@@ -251,13 +251,13 @@ module _ (s part : List ℕ) (bytes : AllBytes s) (fits : length s + length part
       none z k q = omega (arith, z, starts_some first seen k seen_short (front_by_record first (rest ++ part) k q), (row-known k).long)
 
   going_is : fed_by st part ≡ state_of (s ++ part) false
-  unfolding fed_by onward if◌then◌else◌
+  unfolding fed_by onward when◌then◌else◌
   going_is =
       rw (le-ltb longest (length s + length part) fits)
       (ap by_end (joined_of false (length s) (mission_found s) (count_of es) place rest rest-long (all_drop place s bytes) part) ∙ by_end_lem)
 
 overfull-is : (st : State) (s part : List ℕ) → longest < st.count + length part → longest < length s + length part → fed_by st part ≡ state_of (s ++ part) false
-unfolding fed_by if◌then◌else◌
+unfolding fed_by when◌then◌else◌
 overfull-is held s part l m = rw (lt-ltb longest (held.count + length part) l) (sym (state-long (s ++ part) false (omega (arith, length-append s part))))
 
 pub fed_is : (st : State) (s part : List ℕ) → IsOf st s false → fed_by st part ≡ state_of (s ++ part) false

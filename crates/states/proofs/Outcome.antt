@@ -8,7 +8,7 @@ use native.Mathlib.Omega.{arith}
 use lib.Dec.{eqb}
 use lib.ListN.{length, take, drop, length-take, length-drop}
 use borrow.Author.Tests.{lt-ltb, le-ltb}
-use Rattle.refusal.specs.Answers.{given, with_given, if◌then◌else◌}
+use Rattle.refusal.specs.Answers.{given, with_given, when◌then◌else◌}
 use Rattle.refusal.proofs.Answers.{by_order}
 use Rattle.record.specs.declared.steps.Step.{Step}
 use Rattle.record.specs.declared.steps.Step.TheVariants as step
@@ -60,7 +60,7 @@ module _ (s : List ℕ) (ended : Bool) (bytes : AllBytes s) (l : length s ≤ lo
   by_front (step.Record k) e = absurd (no_record_behind true s l k (ap (λ (b : Bool). step_of b rest) (first_of s l) ∙ record_by_front first rest k e))
 
   short_is : Checks s (answer_in st)
-  unfolding answer_in if◌then◌else◌
+  unfolding answer_in when◌then◌else◌
   short_is =
       rw (le-ltb longest (length s) l)
       (ap (λ (f : List ℕ). answer_of_checked (answer_with st (survey_of first f).ending)) front-is
@@ -74,7 +74,7 @@ module _ (s : List ℕ) (ended : Bool) (bytes : AllBytes s) (l : length s ≤ lo
           subst (λ (x : Step). Ended (survey s).end x (survey s).ending) (λ i. step_of (first_of s l i) (parts_tail true s l p i)) p.last
 
 long_is : (st : State) (s : List ℕ) → st.count ≡ suc longest → longest < length s → Checks s (answer_in st)
-unfolding answer_in if◌then◌else◌
+unfolding answer_in when◌then◌else◌
 long_is st s e l =
     rw (lt-ltb longest st.count (omega arith)) (ap (λ (v : Survey). with_given told_of (soundly v.ending v.records)) (sym (survey-long true s l)))
 

@@ -13,7 +13,7 @@ use Prim.Native.Nat.{ℕ, suc, ◌+◌, ◌-◌, ◌≤◌, ◌<◌}
 use native.Mathlib.Omega.{arith}
 use lib.Dec.{eqb}
 use lib.ListN.{length, take, drop, replicate, length-append, length-take, length-drop, length-replicate}
-use Rattle.refusal.specs.Answers.{if◌then◌else◌}
+use Rattle.refusal.specs.Answers.{when◌then◌else◌}
 use Rattle.refusal.proofs.Answers.{by_order}
 use Rattle.record.specs.declared.kinds.Kind.{Kind}
 use Rattle.record.specs.declared.kinds.Kind.TheVariants as kinds
@@ -39,26 +39,26 @@ use Rattle.states.proofs.More.{count-more}
 use Rattle.states.proofs.Laid.{lies-state}
 
 curves-end : (at : ℕ) (es : List Entry) → Listed false at es → CurvesEnd (count_of es) (length (flat es))
-unfolding if◌then◌else◌
+unfolding when◌then◌else◌
 curves-end at [] l = record { cubics = 0; quintics = 0; all = refl; long_is = refl }
 curves-end at (e ∷ es) l =
     let later = curves-end (at + length e.bytes) es l.3 in
     by e.kind l.1 later (count-more e es) (omega (arith, length-append e.bytes (flat es), l.2.long))
   where
-    by : (k : Kind) → may_stand false k ≡ true → CurvesEnd (count_of es) (length (flat es)) → count_of (e ∷ es) ≡ (if (row_of k).curve then 1 else 0) + count_of es
+    by : (k : Kind) → may_stand false k ≡ true → CurvesEnd (count_of es) (length (flat es)) → count_of (e ∷ es) ≡ (when (row_of k).curve then 1 else 0) + count_of es
         → length (flat (e ∷ es)) ≡ (row_of k).size + length (flat es) → CurvesEnd (count_of (e ∷ es)) (length (flat (e ∷ es)))
     by kinds.Header m r c n = absurd (false≢true (sym (later_plain kinds.Header m)))
     by kinds.Cubic m r c n = record { cubics = suc r.cubics; quintics = r.quintics; all = omega (arith, r.all, c); long_is = omega (arith, r.long_is, n) }
     by kinds.Quintic m r c n = record { cubics = r.cubics; quintics = suc r.quintics; all = omega (arith, r.all, c); long_is = omega (arith, r.long_is, n) }
 
 pub records_end_lem : (es : List Entry) → Listed true 0 es → RecordsEnd (count_of es) (length (flat es))
-unfolding if◌then◌else◌
+unfolding when◌then◌else◌
 records_end_lem [] l = inl (refl, refl)
 records_end_lem (e ∷ es) l =
     let kind = first-header e.kind l.1 in
     let size : length e.bytes ≡ (row_of kinds.Header).size = l.2.long ∙ ap (λ (k : Kind). (row_of k).size) kind in
     let long = length-append e.bytes (flat es) in
-    let none : count_of (e ∷ es) ≡ 0 + count_of es = count-more e es ∙ ap (λ (k : Kind). (if (row_of k).curve then 1 else 0) + count_of es) kind in
+    let none : count_of (e ∷ es) ≡ 0 + count_of es = count-more e es ∙ ap (λ (k : Kind). (when (row_of k).curve then 1 else 0) + count_of es) kind in
     let later = curves-end (0 + length e.bytes) es l.3 in
     inr (omega arith, record { cubics = later.cubics; quintics = later.quintics; all = omega (arith, none, later.all); long_is = omega (arith, later.long_is) })
 

@@ -6,7 +6,7 @@
 --   IsOf        a state is that of these bytes, ended or not
 --   Reached     a state is that of some bytes
 use Rattle.std.specs.Prelude.{◌≡◌, Bool, true, false, List, [], ℕ, suc, ltb, length, take, drop}
-use Rattle.refusal.specs.Answers.{if◌then◌else◌}
+use Rattle.refusal.specs.Answers.{when◌then◌else◌}
 use Rattle.record.specs.Numbers.{AllBytes}
 use Rattle.record.specs.Kinds.{longest_record}
 use Rattle.record.specs.Records.{longest, erased_bytes}
@@ -41,7 +41,7 @@ keeping ended count mission curves place rest = record {
 unfoldable pub state_of : List ℕ → Bool → State
 state_of s ended =
     let v = survey s in
-    if ltb longest (length s) then keeping ended (suc longest) 0 0 0 []
+    when ltb longest (length s) then keeping ended (suc longest) 0 0 0 []
     else keeping ended (length s) (mission_number (mission_of v.records)) (count_of v.records) v.end (drop v.end s)
 
 pub record IsOf (st : State) (s : List ℕ) (ended : Bool) : Type 0 where

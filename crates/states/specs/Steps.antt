@@ -17,7 +17,7 @@
 use Rattle.std.specs.Prelude.{◌≡◌, ◌⊎◌, Bool, false, List, [], ◌++◌, ℕ, suc, ◌+◌, ◌-◌, ◌*◌, ◌≤◌, ◌<◌, min, ltb, eqb, length, take, drop, replicate}
 use Rattle.refusal.specs.declared.Refusal.{Refusal}
 use Rattle.refusal.specs.declared.Refusal.TheVariants as refusal
-use Rattle.refusal.specs.Answers.{if◌then◌else◌}
+use Rattle.refusal.specs.Answers.{when◌then◌else◌}
 use Rattle.record.specs.declared.kinds.Kind.TheVariants as kinds
 use Rattle.record.specs.declared.steps.Step.{Step}
 use Rattle.record.specs.declared.steps.Step.TheVariants as step
@@ -61,11 +61,11 @@ abbrev pub padded : List ℕ → List ℕ
 padded bytes = bytes ++ replicate (56 - length bytes) 0
 
 abbrev pub erased_on : State → List ℕ → ℕ
-erased_on st part = if eqb st.erased (behind_in st) then behind_in st + erased_bytes part else st.erased
+erased_on st part = when eqb st.erased (behind_in st) then behind_in st + erased_bytes part else st.erased
 
 -- a sheet's first record is its header
 abbrev pub mission_on : State → List ℕ → ℕ
-mission_on st bytes = if first_in st then mission_in bytes else st.mission
+mission_on st bytes = when first_in st then mission_in bytes else st.mission
 
 -- of so many curves and bytes; `rest` is what the part has behind them
 unfoldable pub after_records : State → ℕ → ℕ → ℕ → ℕ → List ℕ → State
@@ -87,17 +87,17 @@ grown st part = record {
 unfoldable pub onward : State → List ℕ → State
 onward st part =
     let v = survey_of (first_in st) (joined st part) in
-    if eqb v.end 0 then grown st part
+    when eqb v.end 0 then grown st part
     else after_records st (st.count + length part) (mission_on st (joined st part)) (count_of v.records) v.end (drop (v.end - behind_in st) part)
 
 unfoldable pub fed_by : State → List ℕ → State
-fed_by st part = if ltb longest (st.count + length part) then keeping false (suc longest) 0 0 0 [] else onward st part
+fed_by st part = when ltb longest (st.count + length part) then keeping false (suc longest) 0 0 0 [] else onward st part
 
 abbrev pub ended_in : State → State
 ended_in st = record { ended = 1; count = st.count; mission = st.mission; curves = st.curves; place = st.place; erased = st.erased; words = st.words }
 
 abbrev pub mission_kept : State → Mission
-mission_kept st = if first_in st then mission.None else mission.Number st.mission
+mission_kept st = when first_in st then mission.None else mission.Number st.mission
 
 abbrev pub sound_in : State → Checked
 sound_in st = checked.Sheet (mission_kept st) st.curves
@@ -118,7 +118,7 @@ answer_with st (Faulty f) = fault_behind st f.refusal f.place
 
 unfoldable pub answer_in : State → Checked
 answer_in st =
-    if ltb longest st.count then checked.Refused (record { refusal = refusal.TooLong; place = 0 })
+    when ltb longest st.count then checked.Refused (record { refusal = refusal.TooLong; place = 0 })
     else answer_with st (survey_of (first_in st) (front_in st)).ending
 
 pub record CurvesEnd (curves long : ℕ) : Type 0 where

@@ -9,7 +9,7 @@ use lib.Dec.{ltb}
 use lib.ListN.{length, length-append}
 use borrow.Author.Tests.{lt-ltb, le-ltb, ltb-false}
 use Rattle.io.specs.Digits.{last_digits, hex_digit_ascii, IsDigitCount}
-use Rattle.refusal.specs.Answers.{if◌then◌else◌}
+use Rattle.refusal.specs.Answers.{when◌then◌else◌}
 use Rattle.refusal.proofs.Answers.{by_test}
 use Rattle.text.specs.Texts.{digits_of, decimal}
 
@@ -33,7 +33,7 @@ fewer n k f =
     (omega arith, omega (arith, f.1, power (suc k)), λ _. subst (λ (j : ℕ). 10 ^ j ≤ n / 10) e least)
 
 digits_are : (most k n : ℕ) → k ≤ most → IsDigitCount 10 1 n k → last_digits 10 k n ≡ digits_of most n
-unfolding digits_of if◌then◌else◌
+unfolding digits_of when◌then◌else◌
 digits_are zero zero n l f = refl
 digits_are zero (suc k) n l f = absurd (omega arith)
 digits_are (suc most) zero n l f = absurd (omega (arith, f.0))

@@ -17,17 +17,17 @@ use borrow.Author.Tests.{lt-ltb, le-ltb}
 use Rattle.refusal.specs.declared.Refusal.{Refusal}
 use Rattle.refusal.specs.declared.Refusal.TheVariants as refusal
 use Rattle.refusal.specs.declared.Fault.{Fault}
-use Rattle.refusal.specs.Answers.{Answer, given, if◌then◌else◌}
+use Rattle.refusal.specs.Answers.{Answer, given, when◌then◌else◌}
 use Rattle.refusal.proofs.Answers.{by_test, no_answer, given_once, refused_once}
 use Rattle.text.specs.declared.Place.{Place}
-use Rattle.text.specs.declared.Place.TheVariants.{At, Full}
+use Rattle.text.specs.declared.Place.TheVariants.{At}
 use Rattle.text.specs.declared.TextAnswer.{TextAnswer}
 use Rattle.text.specs.declared.TextAnswer.TheVariants.{Written, Refused}
 use Rattle.text.specs.Promise.{answer_of_text, asked, area_after, TextIn}
 use Rattle.text.specs.Steps.{HoldsText, Writes, Ends}
 
 pub asked_fits : (room : ℕ) (text : List ℕ) → length text ≤ room → asked room text ≡ given (length text)
-unfolding asked if◌then◌else◌
+unfolding asked when◌then◌else◌
 asked_fits room text l = rw (le-ltb room (length text) l) refl
 
 pub asked-written : (room : ℕ) (text : List ℕ) (n : ℕ) → given n ≡ asked room text → n ≡ length text
@@ -35,7 +35,7 @@ unfolding asked
 asked-written room text n = by_test (λ (a : Answer ℕ). given n ≡ a → n ≡ length text) _ (λ _ e. no_answer e) (λ _ e. given_once e)
 
 area_fits : (room : ℕ) (text : List ℕ) → ltb room (length text) ≡ false → area_after room text ≡ text ++ replicate (room - length text) 0
-unfolding area_after if◌then◌else◌
+unfolding area_after when◌then◌else◌
 area_fits room text f = rw f refl
 
 module _ {Is : List ℕ → Type 0} where
@@ -87,7 +87,7 @@ module _ {Is : List ℕ → Type 0} where
 module _ (area : List ℕ) where
   pub ends_written : {place : Place} (end : ℕ) {x : List ℕ} → place ≡ At end → x ≡ replicate (length (take (length area - end) (drop end area))) 0
       → Ends area place (take end area ++ (x ++ drop (length area - end) (drop end area))) (Written end)
-  unfolding area_after if◌then◌else◌
+  unfolding area_after when◌then◌else◌
   ends_written {place} end {x} p e = record {
     says = λ text held. let h = subst (HoldsText area text) p held in sym (asked_fits (length area) text (omega (arith, h.0, h.1)) ∙ ap given (sym h.0));
     leaves = λ text held. leaves text (subst (HoldsText area text) p held);
@@ -106,7 +106,7 @@ module _ (area : List ℕ) where
   -- a text that did not fit, or a place beyond the area, where no text is held
   pub ends_full : (place : Place) {x : List ℕ} → ((text : List ℕ) → HoldsText area text place → length area < length text) → x ≡ replicate (length area) 0
       → Ends area place x (Refused refusal.Room)
-  unfolding asked area_after if◌then◌else◌
+  unfolding asked area_after when◌then◌else◌
   ends_full place long e = record {
     says = λ text h. rw (lt-ltb (length area) (length text) (long text h)) refl;
     leaves = λ text h. rw (lt-ltb (length area) (length text) (long text h)) e;

@@ -4,7 +4,7 @@
 --   TextIn             the promise: the area holds such a text from its start, and zeros behind it; where it is too short, zeros alone
 use Rattle.std.specs.Prelude.{◌≡◌, List, ◌++◌, ℕ, ◌-◌, ltb, length, replicate}
 use Rattle.refusal.specs.declared.Refusal.TheVariants as refusal
-use Rattle.refusal.specs.Answers.{Answer, given, refuse, if◌then◌else◌}
+use Rattle.refusal.specs.Answers.{Answer, given, refuse, when◌then◌else◌}
 use Rattle.text.specs.declared.TextAnswer.{TextAnswer}
 use Rattle.text.specs.declared.TextAnswer.TheVariants.{Written, Refused}
 
@@ -14,10 +14,10 @@ answer_of_text (Refused r) = refuse r 0
 
 -- of an area of so many bytes
 unfoldable pub asked : ℕ → List ℕ → Answer ℕ
-asked room text = if ltb room (length text) then refuse refusal.Room 0 else given (length text)
+asked room text = when ltb room (length text) then refuse refusal.Room 0 else given (length text)
 
 unfoldable pub area_after : ℕ → List ℕ → List ℕ
-area_after room text = if ltb room (length text) then replicate room 0 else text ++ replicate (room - length text) 0
+area_after room text = when ltb room (length text) then replicate room 0 else text ++ replicate (room - length text) 0
 
 pub record TextIn (Is : List ℕ → Type 0) (before after : List ℕ) (r : TextAnswer) : Type 0 where
   pub text : List ℕ

@@ -6,7 +6,7 @@
 use Rattle.std.specs.Prelude.{List, [], ◌∷◌, ◌++◌, ℕ, zero, suc, ◌+◌, ◌/◌, ◌%◌, ltb, ℤ, pos, negsuc, nat_abs}
 use Prim.Native.Char.{code}
 use Prim.Native.String.{String, len, char_at}
-use Rattle.refusal.specs.Answers.{if◌then◌else◌}
+use Rattle.refusal.specs.Answers.{when◌then◌else◌}
 
 -- the codes of so many characters, from a place on
 abbrev pub codes : ℕ → ℕ → String → List ℕ
@@ -19,7 +19,7 @@ bytes text = codes (len text) 0 text
 -- 48 is the digit 0; the first number bounds how many digits there are
 unfoldable pub digits_of : ℕ → ℕ → List ℕ
 digits_of zero n = []
-digits_of (suc most) n = if ltb n 10 then (48 + n) ∷ [] else digits_of most (n / 10) ++ ((48 + n % 10) ∷ [])
+digits_of (suc most) n = when ltb n 10 then (48 + n) ∷ [] else digits_of most (n / 10) ++ ((48 + n % 10) ∷ [])
 
 abbrev pub decimal : ℕ → List ℕ
 decimal n = digits_of (suc n) n

@@ -7,7 +7,7 @@ use Prim.Native.Nat.{ℕ, zero, suc, ◌+◌, ◌≤◌}
 use native.Mathlib.Omega.{arith}
 use lib.Dec.{eqb}
 use lib.ListN.{length}
-use Rattle.refusal.specs.Answers.{Answer, refused, given, with_given, number_of_answer, if◌then◌else◌}
+use Rattle.refusal.specs.Answers.{Answer, refused, given, with_given, number_of_answer, when◌then◌else◌}
 use Rattle.sheet.specs.Survey.{Entry, outcome}
 use Rattle.sheet.specs.Promise.{count_of}
 use Rattle.sheet.proofs.Faults.{fault_number}
@@ -18,10 +18,10 @@ use Rattle.totals.specs.Totals.{Placed, verdict_of, with_verdict, refused_by}
 
 -- whether n is the number i, as a count
 abbrev mark : ℕ → ℕ → ℕ
-mark n i = if eqb i n then 1 else 0
+mark n i = when eqb i n then 1 else 0
 
 four_rows : (x : Counted) → let n = verdict_of x in mark n 0 + mark n 1 + mark n 2 + mark n 3 ≡ 1
-unfolding if◌then◌else◌
+unfolding when◌then◌else◌
 four_rows Still = refl
 four_rows No = refl
 four_rows Ph = refl
@@ -33,7 +33,7 @@ curves_complete (p ∷ ps) = omega (arith, curves_complete ps, four_rows p.is)
 
 -- the sound ones, and six rows
 seven-rows : (n : ℕ) → n ≤ 6 → mark n 0 + mark n 1 + mark n 2 + mark n 3 + mark n 4 + mark n 5 + mark n 6 ≡ 1
-unfolding if◌then◌else◌
+unfolding when◌then◌else◌
 seven-rows zero l = refl
 seven-rows (suc zero) l = refl
 seven-rows (suc (suc zero)) l = refl

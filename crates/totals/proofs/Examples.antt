@@ -6,7 +6,7 @@ use mathlib.Core.List.{List, [], ◌∷◌}
 use native.Mathlib.Omega.{arith}
 use lib.IntN.{pos}
 use Rattle.refusal.specs.declared.Refusal.TheVariants as refusal
-use Rattle.refusal.specs.Answers.{Answer, refuse, given, if◌then◌else◌}
+use Rattle.refusal.specs.Answers.{Answer, refuse, given, when◌then◌else◌}
 use Rattle.whole.proofs.Linear.{linear}
 use Rattle.totals.specs.declared.Counted.{Counted}
 use Rattle.totals.specs.declared.Counted.TheVariants.{Still, No, Pre}
@@ -28,5 +28,5 @@ abbrev pub three_totals : Totals
 three_totals = record { sheets = 3; verdicts = 1 ∷ 1 ∷ 0 ∷ 3 ∷ []; refused = 0 ∷ 0 ∷ 1 ∷ 0 ∷ 0 ∷ 0 ∷ []; sum = 1838; longest = Curve 707 1 3 }
 
 pub three_totals_lem : totals_of three ≡ three_totals
-unfolding if◌then◌else◌
+unfolding when◌then◌else◌
 three_totals_lem = refl

@@ -57,7 +57,7 @@ no_longer_so m n l None h = tt
 no_longer_so m n l (Curve o s k) h = omega arith
 
 none-longer : (m : ℕ) (ps : List Placed) (x : Longest) → Found ps x → NoLonger m x → EachIs (NoLonger m) ps
-none-longer m ps None h l = each_so (λ x e. subst (NoLonger m) (sym e) tt) ps h
+none-longer m ps None h l = each_so {P = λ (x : Longest). x ≡ None} {Q = NoLonger m} (λ x e. subst (NoLonger m) (sym e) tt) ps h
 none-longer m ps (Curve n s k) h l =
     subst (EachIs (NoLonger m)) (sym h.among)
     (each_append (NoLonger m) h.before (h.curve ∷ h.after) (each_so (shorter_so m n l) h.before h.shorter)

@@ -13,7 +13,7 @@ use native.Mathlib.Omega.{arith}
 use lib.Dec.{eqb, ltb}
 use lib.ListN.{length}
 use borrow.Author.Tests.{lt-ltb, le-ltb, ltb-true, ltb-false, eqb-true, eqb-false}
-use Rattle.refusal.specs.Answers.{Answer, refused, given, if◌then◌else◌}
+use Rattle.refusal.specs.Answers.{Answer, refused, given, when◌then◌else◌}
 use Rattle.refusal.proofs.Answers.{by_test}
 use Rattle.totals.specs.declared.Counted.{Counted}
 use Rattle.totals.specs.declared.Longest.{Longest}
@@ -45,12 +45,12 @@ module _ {A : Type 0} (number : A → ℕ) where
   -- one more has its own number and no other
   pub many_more : (xs : List A) (x : A) → how_many number (xs ++ (x ∷ [])) (number x) ≡ how_many number xs (number x) + 1
   many_more xs x =
-      let here : ◌≡◌ {A = ℕ} (if eqb (number x) (number x) then 1 else 0) 1 = by_test (λ m. m ≡ 1) (eqb (number x) (number x)) (λ _. refl) (λ f. absurd (eqb-false (number x) (number x) f refl)) in
+      let here : ◌≡◌ {A = ℕ} (when eqb (number x) (number x) then 1 else 0) 1 = by_test (λ m. m ≡ 1) (eqb (number x) (number x)) (λ _. refl) (λ f. absurd (eqb-false (number x) (number x) f refl)) in
       omega (arith, many_append xs (x ∷ []) (number x), here)
 
   pub many_same : (xs : List A) (x : A) (n : ℕ) → n ≢ number x → how_many number xs n ≡ how_many number (xs ++ (x ∷ [])) n
   many_same xs x n d =
-      let elsewhere : ◌≡◌ {A = ℕ} (if eqb n (number x) then 1 else 0) 0 = by_test (λ m. m ≡ 0) (eqb n (number x)) (λ t. absurd (d (eqb-true n (number x) t))) (λ _. refl) in
+      let elsewhere : ◌≡◌ {A = ℕ} (when eqb n (number x) then 1 else 0) 0 = by_test (λ m. m ≡ 0) (eqb n (number x)) (λ t. absurd (d (eqb-true n (number x) t))) (λ _. refl) in
       omega (arith, many_append xs (x ∷ []) n, elsewhere)
 
 pub sum-append : (ps qs : List Placed) → sum_of (ps ++ qs) ≡ sum_of ps + sum_of qs
@@ -64,15 +64,15 @@ longer-none (Curve m s k) = refl
 longer-none None = refl
 
 pub longer-first : (m n s t k l : ℕ) → n ≤ m → longer (Curve m s k) (Curve n t l) ≡ Curve m s k
-unfolding if◌then◌else◌
+unfolding when◌then◌else◌
 longer-first m n s t k l h = rw (le-ltb m n h) refl
 
 pub longer-second : (m n s t k l : ℕ) → m < n → longer (Curve m s k) (Curve n t l) ≡ Curve n t l
-unfolding if◌then◌else◌
+unfolding when◌then◌else◌
 longer-second m n s t k l h = rw (lt-ltb m n h) refl
 
 pub longer_assoc : (a b c : Longest) → longer (longer a b) c ≡ longer a (longer b c)
-unfolding if◌then◌else◌
+unfolding when◌then◌else◌
 longer_assoc None b c = refl
 longer_assoc (Curve m s k) None c = refl
 longer_assoc (Curve m s k) (Curve n t l) None = longer-none _

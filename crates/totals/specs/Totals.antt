@@ -10,7 +10,7 @@
 --   up_to                the numbers of a table's rows
 --   totals_of, IsTotals  the totals: of what the sheets count for, and of the sheets
 use Rattle.std.specs.Prelude.{◌≡◌, List, [], ◌∷◌, ◌++◌, map, ℕ, zero, suc, ◌+◌, eqb, ltb, length}
-use Rattle.refusal.specs.Answers.{Answer, refused, given, number_of_answer, if◌then◌else◌}
+use Rattle.refusal.specs.Answers.{Answer, refused, given, number_of_answer, when◌then◌else◌}
 use Rattle.totals.specs.declared.Counted.{Counted}
 use Rattle.totals.specs.declared.Counted.TheVariants.{Still, No, Ph, Pre}
 use Rattle.totals.specs.declared.Longest.{Longest}
@@ -54,7 +54,7 @@ sum_of (p ∷ ps) = hundredths_of p.is + sum_of ps
 abbrev pub longer : Longest → Longest → Longest
 longer None y = y
 longer (Curve m s k) None = Curve m s k
-longer (Curve m s k) (Curve n t l) = if ltb m n then Curve n t l else Curve m s k
+longer (Curve m s k) (Curve n t l) = when ltb m n then Curve n t l else Curve m s k
 
 abbrev pub length_at : ℕ → ℕ → Counted → Longest
 length_at s k Still = None
@@ -72,7 +72,7 @@ longest_of (p ∷ ps) = longer (own p) (longest_of ps)
 -- how many of a list have a number, by which each is known
 abbrev pub how_many : {A : Type 0} → (A → ℕ) → List A → ℕ → ℕ
 how_many number [] n = 0
-how_many number (x ∷ xs) n = (if eqb n (number x) then 1 else 0) + how_many number xs n
+how_many number (x ∷ xs) n = (when eqb n (number x) then 1 else 0) + how_many number xs n
 
 abbrev pub verdict_at : Placed → ℕ
 verdict_at p = verdict_of p.is

@@ -13,7 +13,7 @@ use lib.ListN.{length}
 use lib.Signed.{◌<ℤ◌}
 use Rattle.refusal.specs.declared.Refusal.TheVariants as R
 use Rattle.whole.specs.Coefficients.{at, Greatest}
-use Rattle.poly.specs.Polynomials.{Same, scaled, square}
+use Rattle.poly.specs.Polynomials.{scaled, square}
 use Rattle.whole.specs.Number.{wholes, Within}
 use Rattle.whole.proofs.Linear.{linear}
 use Rattle.poly.proofs.Deciding.{same?, Tried, tried?, tried_found}

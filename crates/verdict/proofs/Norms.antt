@@ -7,7 +7,7 @@ use mathlib.Core.List.{List}
 use mathlib.Core.Logic.{◌≢◌}
 use Prim.Native.Nat.{ℕ}
 use lib.IntN.{◌*ℤ◌}
-use Rattle.poly.specs.Polynomials.{Same, scaled, square}
+use Rattle.poly.specs.Polynomials.{Same, square}
 use Rattle.whole.specs.Coefficients.{Greatest}
 use Rattle.whole.specs.Number.{wholes}
 use Rattle.whole.proofs.Integers.{*ℤ-1}
@@ -15,7 +15,7 @@ use Rattle.whole.proofs.Wholes.{wholes_ring}
 use Rattle.poly.specs.Terms.{Primitive, Top}
 use Rattle.poly.proofs.Lists.{scaled-same, square-same}
 use Rattle.poly.proofs.Gauss.{primitive_product}
-use Rattle.poly.proofs.Content.{quotients, greatest_some, quotient_primitive, primitive_greatest}
+use Rattle.poly.proofs.Content.{quotients, greatest_some, primitive_greatest}
 use Rattle.poly.proofs.Squares.{square-quotient, square-multiple}
 use Rattle.poly.proofs.Wholes.{wholes_domain, wholes_bezout}
 use Rattle.pair.specs.declared.Pair.{Pair}

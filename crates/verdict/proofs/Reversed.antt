@@ -15,7 +15,7 @@ use Rattle.poly.specs.Terms.{Above, twice}
 use Rattle.poly.proofs.Series.{Series, conv, series, constant, conv-constant}
 use Rattle.poly.proofs.Lists.{at_scaled, of_sum, of_product}
 use Rattle.pair.specs.declared.Pair.{Pair}
-use Rattle.pair.specs.Pairs.{cross, pairs}
+use Rattle.pair.specs.Pairs.{pairs}
 use Rattle.curve.specs.Curves.{reals, imaginaries, norm_polynomial}
 use Rattle.bernstein.specs.Powers.{power_form}
 use Rattle.bernstein.proofs.InPowers.{in_powers, in_powers-above}

@@ -7,7 +7,7 @@
 --   pre_holds                          D = κ w² with the signs of the rules: the verdict is pre
 use mathlib.Core.Path.{◌≡◌, sym, ap, ◌∙◌, subst}
 use mathlib.Core.List.{List, []}
-use mathlib.Core.Logic.{◌≢◌, ⊎_elim}
+use mathlib.Core.Logic.{◌≢◌}
 use Prim.Native.Nat.{ℕ}
 use lib.IntN.{pos, negsuc}
 use Rattle.whole.specs.Coefficients.{at}
@@ -19,8 +19,8 @@ use Rattle.poly.proofs.Lists.{at_scaled, scaled-same, scaled-scaled, square-same
 use Rattle.poly.proofs.Content.{primitive_same}
 use Rattle.poly.proofs.Top.{top_unique}
 use Rattle.pair.specs.declared.Pair.{Pair}
-use Rattle.pair.specs.Pairs.{pair, pairs, times, negative, imaginary, AllWithin}
-use Rattle.pair.proofs.Laws.{pairs_ring, pairs_domain, negative-twice}
+use Rattle.pair.specs.Pairs.{pair, pairs, imaginary, AllWithin}
+use Rattle.pair.proofs.Laws.{pairs_ring}
 use Rattle.pair.proofs.Parts.{turned-within}
 use Rattle.verdict.specs.declared.Preimage.{Preimage}
 use Rattle.verdict.specs.declared.Verdict.TheVariants as verdict

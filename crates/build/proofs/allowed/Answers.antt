@@ -1,5 +1,4 @@
 -- `build::allowed` meets its contract.
-use borrow.Author.Rules.{rules}
 use Rattle.whole.proofs.Flags.{told, untold}
 use Rattle.build.proofs.Triples.{all-within}
 use Rattle.build.proofs.allowed.Goals as goal

@@ -6,7 +6,7 @@ use Rattle.pair.specs.declared.Pair.{Pair}
 use Rattle.divisor.specs.declared.PairQuotient.{PairQuotient}
 use Rattle.divisor.specs.declared.PairQuotient.TheVariants.{Whole, None}
 use Rattle.divisor.specs.Promise.{IsOverWhole}
-use Rattle.build.specs.Promise.{quintic, thrice}
+use Rattle.build.specs.Promise.{quintic}
 use Rattle.build.proofs.Sizes.{thrice-within, third-within}
 use Rattle.build.proofs.Legs.{third-found}
 use Rattle.build.proofs.Answers.{refused_range, refused-still, refused_thirds, answered}

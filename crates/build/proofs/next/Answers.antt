@@ -1,7 +1,6 @@
 -- `build::next` meets its contract.
 use mathlib.Core.Path.{◌≡◌, ap, ◌∙◌}
 use native.Mathlib.Omega.{arith}
-use borrow.Author.Rules.{rules}
 use Rattle.pair.specs.Pairs.{plus, times}
 use Rattle.pair.proofs.Parts.{wider, times-within, plus-within}
 use Rattle.build.proofs.next.Goals as goal

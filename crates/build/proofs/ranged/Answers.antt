@@ -1,7 +1,6 @@
 -- `build::ranged` meets its contract.
 use mathlib.Core.Path.{refl, subst}
 use mathlib.Core.Logic.{inl, inr}
-use borrow.Author.Rules.{rules}
 use Rattle.whole.specs.Number.{Tells}
 use Rattle.build.proofs.ranged.Goals as goal
 

@@ -11,26 +11,22 @@ use Rattle.curve_calls.proofs.build.Goals as goal
 
 pub returns-in-Cubic : goal.returns-in-Cubic
 returns-in-Cubic c =
-    let k = c in
-    let s = k.ranges in
-    let v = k.w0-1.given in
+    let w = c.in-Cubic in
     let r = c.build_cubic in
     inr (
-      cubic v.0.0 v.0.1.0,
-      subst (IsSource _) v.1 k.source_in.ensures,
-      handed r.result (simp (to_z-of_z, s.x, s.y) at r.ensures) refl c.hand_built.type_inv c.hand_built.ensures,
+      cubic w.w0 w.w1,
+      subst (IsSource _) w.is c.source_in.ensures,
+      handed r.result (simp (to_z-of_z, c.ranges.x, c.ranges.y) at r.ensures) refl c.hand_built.type_inv c.hand_built.ensures,
     )
 
 pub returns-in-Quintic : goal.returns-in-Quintic
 returns-in-Quintic c =
-    let k = c in
-    let s = k.ranges in
-    let v = k.w0-in-Quintic-1.given in
+    let w = c.in-Quintic in
     let r = c.build_quintic in
     inr (
-      quintic v.0.0 v.0.1.0 v.0.1.1.0,
-      subst (IsSource _) v.1 k.source_in.ensures,
-      handed r.result (simp (to_z-of_z, s.x, s.y) at r.ensures) refl c.hand_built-in-Quintic.type_inv c.hand_built-in-Quintic.ensures,
+      quintic w.w0 w.w1 w.w2,
+      subst (IsSource _) w.is c.source_in.ensures,
+      handed r.result (simp (to_z-of_z, c.ranges.x, c.ranges.y) at r.ensures) refl c.hand_built-in-Quintic.type_inv c.hand_built-in-Quintic.ensures,
     )
 
 pub returns-in-WrongCount : goal.returns-in-WrongCount

@@ -1,7 +1,6 @@
 -- `join::fixed_part` meets its contract.
 use mathlib.Core.Path.{ap, ap₂, ◌∙◌}
 use native.Mathlib.Omega.{arith}
-use borrow.Author.Rules.{rules}
 use lib.IntN.{pos}
 use Rattle.pair.specs.Pairs.{minus, multiple}
 use Rattle.pair.proofs.Parts.{wider, plus-within, multiple-within}

@@ -1,5 +1,4 @@
 -- `join::in_range` meets its contract.
-use borrow.Author.Rules.{rules}
 use Rattle.whole.proofs.Flags.{told, untold}
 use Rattle.join.proofs.in_range.Goals as goal
 

@@ -2,7 +2,6 @@
 use mathlib.Core.Path.{subst}
 use mathlib.Core.Bool.{Bool, true, false}
 use mathlib.Core.Logic.{◌⊎◌, inl, inr, ⊎_elim}
-use borrow.Author.Rules.{rules}
 use Rattle.whole.specs.Number.{Tells}
 use Rattle.join.proofs.is_dead_end.Goals as goal
 

@@ -5,7 +5,7 @@ use Prim.Native.Nat.{ℕ, ◌-◌}
 use native.Mathlib.Omega.{arith}
 use lib.ListN.{length, replicate}
 use borrow.Author.Tests.{le-ltb}
-use Rattle.refusal.specs.Answers.{given, if◌then◌else◌}
+use Rattle.refusal.specs.Answers.{given, when◌then◌else◌}
 use Rattle.record.specs.Records.{longest, erased}
 use Rattle.record.specs.Promise.{bytes_after}
 use Rattle.sheet.specs.declared.Change.{Change}

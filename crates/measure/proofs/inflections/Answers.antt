@@ -1,6 +1,5 @@
 -- `inflections` meets its contract: what the pre-image shows, or its refusal.
 use mathlib.Core.Path.{subst}
-use borrow.Author.Rules.{rules}
 use Rattle.curve.specs.declared.Curve.{Curve}
 use Rattle.curve.specs.Curves.{points_of}
 use Rattle.curve.proofs.LegPolynomial.{points_of_length}
@@ -14,7 +13,7 @@ use Rattle.measure.proofs.inflections.Reads as reads
 use Rattle.measure.proofs.inflections.Tie as tie
 
 -- there is a pre-image
-module _ (c : at.After-known_told tie.the-claims reads.Pre reads.Post) where
+module _ (c : at.Past-After-known_told tie.the-claims reads.Pre reads.Post) where
   abbrev curve : Curve
   curve = c.args.curve
 
@@ -25,12 +24,11 @@ module _ (c : at.After-known_told tie.the-claims reads.Pre reads.Post) where
   found = subst (Preimaged (points_of curve)) c.in-Found.is c.preimage_of.ensures
 
 pub inflections_by-requires : goal.inflections_by-requires
-inflections_by-requires c = preimage_small (points_of (curve c)) (p c) (found c) (points_of_length (curve c))
+inflections_by-requires c = preimage_small (points_of (curve c.before)) (p c.before) (found c.before) (points_of_length (curve c.before))
 
 pub returns-in-Found : goal.returns-in-Found
-returns-in-Found c = let f = found c.before in (f.0, record { preimage = p c.before; is_preimage = f.1; has = c.inflections_by.ensures })
+returns-in-Found c = let f = found c.before.before in (f.0, record { preimage = p c.before.before; is_preimage = f.1; has = c.inflections_by.ensures })
 
 pub returns-in-Refused : goal.returns-in-Refused
 returns-in-Refused c =
-    let s = c in
-    subst (Preimaged (points_of s.args.curve)) s.in-Refused.is s.preimage_of.ensures
+    subst (Preimaged (points_of c.args.curve)) c.in-Refused.is c.preimage_of.ensures

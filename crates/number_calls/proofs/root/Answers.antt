@@ -3,7 +3,6 @@ use mathlib.Core.Path.{ap, ap₂}
 use mathlib.Core.List.{[], ◌∷◌}
 use Prim.Native.Nat.{◌^◌, ◌<◌}
 use native.Mathlib.Omega.{arith}
-use borrow.Author.Rules.{rules}
 use lib.IntN.{ℤ}
 use mir.Syntax.{w64}
 use mir.ValLaws.{to_z_pos}

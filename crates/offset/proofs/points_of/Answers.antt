@@ -1,7 +1,6 @@
 -- `offset::points_of` meets its contract.
 use mathlib.Core.Path.{◌≡◌, refl, sym, subst}
 use Prim.Native.Nat.{suc}
-use borrow.Author.Rules.{rules}
 use Rattle.offset.specs.Promise.{offset_degree}
 use Rattle.offset.proofs.points_of.Goals as goal
 

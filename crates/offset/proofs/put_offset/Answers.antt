@@ -20,18 +20,20 @@ use Rattle.offset.specs.Promise.{offset_degree, offset_curve, offset_numbers}
 use Rattle.offset.specs.Steps.{RowsOf}
 use Rattle.offset.proofs.Turns.{few_points, rows-numbers}
 use Rattle.offset.proofs.put_offset.Goals as goal
+use Rattle.offset.proofs.put_offset.Tie as tie
+use Rattle.offset.proofs.put_offset.Reads as reads
+use Rattle.offset.proofs.put_offset.Lts as at
 
 pub overflow_mul-size : goal.overflow_mul-size
 overflow_mul-size c = omega (arith, c.points_of-points.ensures, few_points c.args.curve)
 
 pub returns-then-area-size : goal.returns-then-area-size
 returns-then-area-size c =
-    let k = c in
-    refused_in R.Room (inl (omega (arith, k.if-area-size.true, k.points_of-points.ensures), refl)) c.clear.ensures
+    refused_in R.Room (inl (omega (arith, c.if-area-size.true, c.points_of-points.ensures), refl)) c.clear.ensures
 
 -- there is room
-module _ (c : goal.After-rows-r) where
-  abbrev o : goal.Start
+module _ (c : at.After-rows tie.the-claims reads.Pre reads.Post) where
+  abbrev o : at.Start tie.the-claims reads.Pre reads.Post
   o = c.before.before.before
 
   abbrev area : List ℤ
@@ -68,26 +70,23 @@ put_points-requires c =
 
 pub overflow_cast-result : goal.overflow_cast-result
 overflow_cast-result c =
-    let t = c in
-    let k = t.before.before in
-    omega (arith, points_are k, few_points (o k).args.curve)
+    omega (arith, points_are c.before.before.before.before.before.before, few_points (o c.before.before.before.before.before.before).args.curve)
 
 pub shape_of-area : goal.shape_of-area
 shape_of-area c = search rules
 
 pub returns : goal.returns
 returns c =
-    let t = c in
-    let k = t.before.before in
+    let k = c.before.before.before.before.before.before in
     let s = (o k).args in
     let vs = offset_numbers s.curve (offset_curve (points_of s.curve) (quartic s.w) s.h) in
     let rest = drop (3 * points k) (area k) in
-    let is : t.put_points.new.0 ≡ vs = t.put_points.ensures ∙ rows-numbers s.curve k.rows-r.result (made k) (points_are k) in
-    let many : 3 * points k ≡ length vs = sym (t.put_points.auto.0 ∙ start-long k) ∙ ap length is in
+    let is : c.put_points.new.area ≡ vs = c.put_points.ensures ∙ rows-numbers s.curve c.rows-r.result (made k) (points_are k) in
+    let many : 3 * points k ≡ length vs = sym (c.put_points.auto.area ∙ start-long k) ∙ ap length is in
     record {
       answer = given vs;
       first_or = (inr (λ l. omega (arith, room k, points_are k), refl), refl);
       counts = ap given many;
       same_room = shape_of-area c;
-      fills = fills_rest (3 * points k) vs rest (t.put_points.new.0 ++ rest) c.clear-2.new.0 many (ap (λ (us : List ℤ). us ++ rest) is) c.clear-2.ensures;
+      fills = fills_rest (3 * points k) vs rest (c.put_points.new.area ++ rest) c.clear-2.new.area many (ap (λ (us : List ℤ). us ++ rest) is) c.clear-2.ensures;
     }

@@ -1,5 +1,4 @@
 -- `put_report` meets its contract: the lines of a sound sheet, or the refusal.
-use borrow.Author.Rules.{rules}
 use mathlib.Core.Path.{◌≡◌, refl, sym, ap, ◌∙◌, subst}
 use mathlib.Core.List.{List}
 use Prim.Native.Nat.{ℕ}

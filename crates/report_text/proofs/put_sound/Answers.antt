@@ -1,5 +1,4 @@
 -- `put_sound` meets its contract: the first line, and a line for each curve.
-use borrow.Author.Rules.{rules}
 use mathlib.Core.Path.{refl, ap, ◌∙◌, sym}
 use Prim.Native.Nat.{ℕ}
 use Rattle.refusal.specs.Answers.{with_given}

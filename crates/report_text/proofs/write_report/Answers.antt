@@ -1,5 +1,4 @@
 -- `write_report` meets its contract: the report, ended.
-use borrow.Author.Rules.{rules}
 use Rattle.text.proofs.Held.{text_in}
 use Rattle.report_text.proofs.write_report.Goals as goal
 

@@ -13,22 +13,14 @@ use Rattle.report_text.specs.Promise.{Reported}
 use Rattle.report_text.proofs.Short.{written_short}
 use Rattle.hand.specs.Promise.{coded as code_of}
 use Rattle.sheet_calls.proofs.report.Goals as goal
-use Rattle.sheet_calls.proofs.report.Lts as at
-use Rattle.sheet_calls.proofs.report.Reads as reads
-use Rattle.sheet_calls.proofs.report.Tie as tie
 
 -- what the report says, where it is written
 module _ (c : goal.In-Written) where
-  abbrev from : at.After-write_report tie.the-claims reads.Pre reads.Post
-  from = c.before.before.before.before.before
-
-  done : Reported from.args.s.now from.args.text.now from.write-report.last.1.0 (text.Written c.in-Written.n)
-  done =
-      let s = from.args in
-      subst (Reported s.s.now s.text.now from.write-report.last.1.0) c.in-Written.is from.write_report.ensures
+  done : Reported c.args.s.now c.args.text.now c.write_report.new.area (text.Written c.in-Written.n)
+  done = subst (Reported c.args.s.now c.args.text.now c.write_report.new.area) c.in-Written.is c.write_report.ensures
 
   short : c.in-Written.n ≤ 5335
-  short = written_short _ from.shared_slice_known-1.given _ _ _ done
+  short = written_short c.args.s.now c.type_inv.s _ _ _ done
 
 pub overflow_cast-result : goal.overflow_cast-result
 overflow_cast-result c = record { sfits = omega (arith, short c) }
@@ -38,10 +30,8 @@ returns-in-Written c = (text.Written c.in-Written.n, done c, to_z_pos w64 c.in-W
 
 pub returns-in-Refused : goal.returns-in-Refused
 returns-in-Refused c =
-    let k = c in
-    let w = k in
-    let s = w.args in (
-      text.Refused k.in-Refused.r,
-      subst (Reported s.s.now s.text.now w.write_report.new.1.0) k.in-Refused.is w.write_report.ensures,
+    let s = c.args in (
+      text.Refused c.in-Refused.r,
+      subst (Reported s.s.now s.text.now c.write_report.new.area) c.in-Refused.is c.write_report.ensures,
       settled c.coded.type_inv (c.coded.ensures ∙ ap (λ (f : Fault). code_of (refused f)) c.nowhere.ensures),
     )

@@ -1,9 +1,9 @@
 -- `clear` meets its contract. Invariant: i zeros, and then what was there from i on.
-use mathlib.Core.Path.{◌≡◌, refl, ap, ◌∙◌}
-use mathlib.Core.List.{List, ◌++◌}
-use Prim.Native.Nat.{ℕ, ◌-◌, ◌≤◌}
+use mathlib.Core.Path.{refl, ap, ◌∙◌}
+use mathlib.Core.List.{List}
+use Prim.Native.Nat.{ℕ}
 use native.Mathlib.Omega.{arith}
-use lib.ListN.{length, drop, replicate, set, length-set}
+use lib.ListN.{set, length-set}
 use Rattle.whole.proofs.Fill.{fill_more, fill-all}
 use Rattle.text.proofs.clear.Goals as goal
 

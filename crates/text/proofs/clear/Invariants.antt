@@ -1,10 +1,8 @@
 -- What the loops of `clear` keep.
-use mathlib.Core.Path.{◌≡◌, refl, ap, ◌∙◌}
-use mathlib.Core.List.{List, ◌++◌}
-use Prim.Native.Nat.{ℕ, ◌-◌, ◌≤◌}
-use native.Mathlib.Omega.{arith}
-use lib.ListN.{length, drop, replicate, set, length-set}
-use Rattle.whole.proofs.Fill.{fill_more, fill-all}
+use mathlib.Core.Path.{◌≡◌}
+use mathlib.Core.List.{◌++◌}
+use Prim.Native.Nat.{◌-◌, ◌≤◌}
+use lib.ListN.{length, drop, replicate}
 use Rattle.text.proofs.clear.Given as goal
 
 abbrev pub invariant-loop-i : goal.invariant-loop-i

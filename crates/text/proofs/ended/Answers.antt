@@ -1,11 +1,6 @@
 -- `ended` meets its contract: zeros behind the text, or throughout.
-use borrow.Author.Rules.{rules}
 use mathlib.Core.Path.{subst}
-use mathlib.Core.Logic.{⊎_elim}
-use mathlib.Core.List.{List}
-use Prim.Native.Nat.{ℕ, ◌<◌}
 use native.Mathlib.Omega.{arith}
-use lib.ListN.{length}
 use Rattle.text.specs.Steps.{HoldsText}
 use Rattle.text.proofs.Held.{ends_written, ends_full}
 use Rattle.text.proofs.ended.Goals as goal
@@ -23,8 +18,8 @@ pub returns : goal.returns
 returns c =
     ends_full c.args.area.now c.args.place
     (λ text h.
-        elim c.match-place.branch [
-          in-At+else-end-area w ↦ let held = subst (HoldsText c.args.area.now text) w.in-At.is h in absurd (omega (arith, w.if-end-area.false, held.1))
-        | in_default w ↦ subst (HoldsText c.args.area.now text) w.in_default.is h
-        ])
+    elim c.match-place.branch [
+      | in-At+else-end-area w ↦ let held = subst (HoldsText c.args.area.now text) w.in-At.is h in absurd (omega (arith, w.if-end-area.false, held.1))
+      | in_default w ↦ subst (HoldsText c.args.area.now text) w.in_default.is h
+    ])
     c.clear-2.ensures

@@ -1,5 +1,4 @@
 -- `put_labelled` meets its contract: a piece, and then another.
-use borrow.Author.Rules.{rules}
 use Rattle.text.proofs.Pieces.{◌then◌}
 use Rattle.text.proofs.put_labelled.Goals as goal
 

@@ -1,5 +1,4 @@
 -- `put_number` meets its contract: the digits of `io::decimal` are those of the definition.
-use borrow.Author.Rules.{rules}
 use mathlib.Core.Path.{◌∙◌, subst}
 use mathlib.Core.List.{List}
 use Prim.Native.Nat.{ℕ}

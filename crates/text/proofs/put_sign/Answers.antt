@@ -1,5 +1,4 @@
 -- `put_sign` meets its contract.
-use borrow.Author.Rules.{rules}
 use mir.Syntax.{w64}
 use mir.ValLaws.{to_z-of_z}
 use Rattle.whole.proofs.Linear.{linear}

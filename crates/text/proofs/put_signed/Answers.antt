@@ -1,5 +1,4 @@
 -- `put_signed` meets its contract: a label, a sign and the digits.
-use borrow.Author.Rules.{rules}
 use mathlib.Core.Path.{ap, ◌∙◌}
 use lib.IntN.{nat_abs}
 use mir.Syntax.{w64}

@@ -6,7 +6,6 @@ use Rattle.totals.specs.declared.Totals.{Totals}
 use Rattle.totals.specs.Totals.{IsTotals}
 use Rattle.totals.specs.Promise.{counting}
 use Rattle.totals.proofs.More.{added_totals}
-use borrow.Author.Rules.{rules}
 use Rattle.totals.proofs.add_sheet.Goals as goal
 
 pub returns-then-t-ge1000 : goal.returns-then-t-ge1000

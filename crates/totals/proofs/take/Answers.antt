@@ -3,7 +3,6 @@ use mathlib.Core.Path.{sym, ap, ◌∙◌, subst}
 use Prim.Native.Nat.{ℕ}
 use Rattle.totals.specs.Steps.{curves_of, CountsCurves}
 use Rattle.totals.proofs.Walked.{takes}
-use borrow.Author.Rules.{rules}
 use Rattle.totals.proofs.take.Goals as goal
 
 pub count_curves-counted-requires : goal.count_curves-counted-requires

@@ -3,7 +3,6 @@ use mathlib.Core.Path.{sym, ap, ◌∙◌}
 use Rattle.sheet.specs.declared.Checked.{Checked}
 use Rattle.sheet.specs.Promise.{answer_of_checked}
 use Rattle.totals.specs.Steps.{with_answer}
-use borrow.Author.Rules.{rules}
 use Rattle.totals.proofs.with_answer.Goals as goal
 
 pub returns-in-Refused : goal.returns-in-Refused

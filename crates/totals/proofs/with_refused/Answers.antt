@@ -4,7 +4,6 @@ use Prim.Native.Nat.{ℕ, ◌-◌}
 use native.Mathlib.Omega.{arith}
 use Rattle.refusal.proofs.Laws.{number_positive}
 use Rattle.totals.specs.Promise.{marked}
-use borrow.Author.Rules.{rules}
 use Rattle.totals.proofs.with_refused.Goals as goal
 
 pub overflow_sub-number : goal.overflow_sub-number

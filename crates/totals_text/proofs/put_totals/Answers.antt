@@ -1,7 +1,6 @@
 -- `put_totals` meets its contract: the lines one after another.
 use mathlib.Core.Path.{◌∙◌}
 use Rattle.text.proofs.Pieces.{◌then◌}
-use borrow.Author.Rules.{rules}
 use Rattle.totals_text.proofs.put_totals.Goals as goal
 
 pub shape_of-area : goal.shape_of-area
@@ -13,13 +12,13 @@ shape_of-area c =
     let p3 = p4 in
     let p2 = p3 in
     let p1 = p2 in
-    p7.put_longest.auto.0
-    ∙ p6.put-f.auto.0
-    ∙ p5.put_hundredths-e.auto.0
-    ∙ p4.put-d.auto.0
-    ∙ p3.put_refusals-c.auto.0
-    ∙ p2.put_counts-b.auto.0
-    ∙ p1.put_count-a.auto.0
+    p7.put_longest.auto.area
+    ∙ p6.put-f.auto.area
+    ∙ p5.put_hundredths-e.auto.area
+    ∙ p4.put-d.auto.area
+    ∙ p3.put_refusals-c.auto.area
+    ∙ p2.put_counts-b.auto.area
+    ∙ p1.put_count-a.auto.area
 
 pub returns : goal.returns
 returns c =

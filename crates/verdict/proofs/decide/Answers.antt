@@ -1,7 +1,6 @@
 -- `decide` meets its contract: by the first leg, by stillness, by a generator, or by what is left.
 use mathlib.Core.Path.{sym, subst}
 use mathlib.Core.List.{List, []}
-use borrow.Author.Rules.{rules}
 use Rattle.whole.specs.Number.{Tells}
 use Rattle.poly.specs.Polynomials.{Same, scaled, square}
 use Rattle.whole.proofs.Flags.{untold}

@@ -1,7 +1,6 @@
 -- `is_still` meets its contract, by the kind of curve.
 use mathlib.Core.Path.{sym, subst}
 use mathlib.Core.List.{[]}
-use borrow.Author.Rules.{rules}
 use Rattle.whole.specs.Number.{Tells}
 use Rattle.poly.specs.Polynomials.{Same}
 use Rattle.whole.proofs.Flags.{told, untold, told-map}

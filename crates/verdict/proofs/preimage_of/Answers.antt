@@ -1,6 +1,5 @@
 -- `verdict::preimage_of` meets its contract: each arm is the answer of its verdict.
 use mathlib.Core.Path.{◌≡◌, subst}
-use borrow.Author.Rules.{rules}
 use Rattle.curve.specs.Curves.{points_of}
 use Rattle.verdict.specs.declared.Verdict.{Verdict}
 use Rattle.verdict.specs.declared.Verdict.TheVariants as verdict

@@ -1,11 +1,6 @@
 -- `unmade` meets its contract: N is no c q² where the last leg does not divide as it must.
-use mathlib.Core.Path.{refl}
-use mathlib.Core.List.{List}
-use borrow.Author.Rules.{rules}
 use Rattle.whole.proofs.Flags.{untold}
 use Rattle.bernstein.specs.Powers.{power_form}
-use Rattle.curve.specs.declared.Legs.{Legs}
-use Rattle.curve.specs.declared.Legs.TheVariants.{Cubic, Quintic}
 use Rattle.curve.specs.Steps.{legs_of}
 use Rattle.verdict.proofs.Known.{legs_small}
 use Rattle.verdict.proofs.Decided.{last_refused}

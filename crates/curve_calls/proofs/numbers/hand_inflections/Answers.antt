@@ -27,16 +27,12 @@ flagged false = refl
 
 pub returns-in-Found : goal.returns-in-Found
 returns-in-Found c =
-    let k = c in
-    let m = k in
-    let v = m.r-1.given in
-    let x = v.0.0 in
-    let f = k.struct_told-1.given in
+    let x = c.in-Found.i in
+    let t = x.turning in
+    let few : x.count < 256 = search rules in
     hands_same
-    (ap given
-    (kept x.turning.t0 f.0.1 (kept x.turning.t1 f.1.0.1 (kept x.turning.t2 f.1.1.0.1
-    (counted x.count k.struct_known-1.given.1.0.fits (flagged x.straight)))))
-    ∙ ap (λ (x : InflectionAnswer). with_given inflection_numbers (answer_of_inflections x)) (sym v.1))
+    (ap given (kept t.t0 (search rules) (kept t.t1 (search rules) (kept t.t2 (search rules) (counted x.count few (flagged x.straight)))))
+    ∙ ap (λ (x : InflectionAnswer). with_given inflection_numbers (answer_of_inflections x)) (sym c.in-Found.is))
     c.hand.type_inv c.hand.ensures
 
 pub returns-in-Refused : goal.returns-in-Refused

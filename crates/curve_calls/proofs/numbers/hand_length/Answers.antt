@@ -11,13 +11,10 @@ use Rattle.curve_calls.proofs.numbers.hand_length.Goals as goal
 
 pub returns-in-Found : goal.returns-in-Found
 returns-in-Found c =
-    let k = c in
-    let v = k.r-1.given in
-    let l = v.0.0 in
-    let f = k.struct_told-1.given in
+    let l = c.in-Found.l in
     hands_same
-    (ap given (kept l.c f.0.1 (kept l.a f.1.0.1 (kept l.b f.1.1.0.1 refl)))
-    ∙ ap (λ (x : LengthAnswer). with_given length_numbers (answer_of_length x)) (sym v.1))
+    (ap given (kept l.c (search rules) (kept l.a (search rules) (kept l.b (search rules) refl)))
+    ∙ ap (λ (x : LengthAnswer). with_given length_numbers (answer_of_length x)) (sym c.in-Found.is))
     c.hand.type_inv c.hand.ensures
 
 pub returns-in-Refused : goal.returns-in-Refused

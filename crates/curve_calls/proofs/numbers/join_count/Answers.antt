@@ -14,7 +14,7 @@ use Rattle.curve_calls.proofs.numbers.join_count.Goals as goal
 
 pub returns-in-Listed : goal.returns-in-Listed
 returns-in-Listed c =
-    to_z_pos w64 c.in-Listed.n (omega (arith, c.known_told-1.given.0.1)) ∙ sym (ap (λ (a : JoinAnswer). code_of (answer_of_joins a)) c.in-Listed.is)
+    to_z_pos w64 c.in-Listed.n (omega arith) ∙ sym (ap (λ (a : JoinAnswer). code_of (answer_of_joins a)) c.in-Listed.is)
 
 pub returns-in-Refused : goal.returns-in-Refused
 returns-in-Refused c =

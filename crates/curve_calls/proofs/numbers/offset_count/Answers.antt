@@ -14,7 +14,7 @@ use Rattle.curve_calls.proofs.numbers.offset_count.Goals as goal
 
 pub returns-in-Written : goal.returns-in-Written
 returns-in-Written c =
-    to_z_pos w64 c.in-Written.n (omega (arith, c.known_told-1.given.0.1)) ∙ sym (ap (λ (a : OffsetAnswer). code_of (answer_of_offset a)) c.in-Written.is)
+    to_z_pos w64 c.in-Written.n (search rules) ∙ sym (ap (λ (a : OffsetAnswer). code_of (answer_of_offset a)) c.in-Written.is)
 
 pub returns-in-Refused : goal.returns-in-Refused
 returns-in-Refused c =

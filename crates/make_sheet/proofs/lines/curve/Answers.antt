@@ -15,9 +15,9 @@ returns-in-Wrong c =
     let known = c in
     let call = known in
     let s = call.args in
-    let (within, (vs, words, never)) = subst (NumbersIn s.text.now s.from call.take_numbers.new.1.1.1.0) known.in-Wrong.is call.take_numbers.ensures in
+    let (within, (vs, words, never)) = subst (NumbersIn s.text.now s.from call.take_numbers.new.out) known.in-Wrong.is call.take_numbers.ensures in
     wrong-curve known.in-Wrong.why known.in-Wrong.place s.text.now within c.wrong.ensures s.from (length s.n.now)
-    (vs, words, λ c e h. never (numbers_of (points_of c)) (e ∙ sym call.take_numbers.auto.1.1.1.0) h)
+    (vs, words, λ c e h. never (numbers_of (points_of c)) (e ∙ sym call.take_numbers.auto.out) h)
 
 pub returns-in-Curve : goal.returns-in-Curve
 returns-in-Curve c =
@@ -27,12 +27,12 @@ returns-in-Curve c =
     let call = told in
     let start = call in
     let s = start.args in
-    let xs = call.take_numbers.new.1.1.1.0 in
+    let xs = call.take_numbers.new.out in
     let h = subst (NumbersIn s.text.now s.from xs) told.in_default.is call.take_numbers.ensures in
     let is = subst (IsGiven xs) known.in-Curve.is made.curve_in.ensures in
     record {
       place_within = start.requires.0;
-      curve = (h.0, h.1, subst (Numbers h.0) (sym is) h.2, ap length is ∙ call.take_numbers.auto.1.1.1.0);
+      curve = (h.0, h.1, subst (Numbers h.0) (sym is) h.2, ap length is ∙ call.take_numbers.auto.out);
     }
 
 pub returns-in-WrongCount : goal.returns-in-WrongCount
@@ -42,7 +42,7 @@ returns-in-WrongCount c =
     let call = made in
     let start = call in
     let s = start.args in
-    let xs = call.take_numbers.new.1.1.1.0 in
+    let xs = call.take_numbers.new.out in
     let none = no_room s.text.now s.from xs (subst (IsGiven xs) told.in-WrongCount.is made.curve_in.ensures) in
     wrong-curve _ s.first s.text.now start.requires.0 c.wrong-in-WrongCount.ensures s.from (length s.n.now)
-    (subst (NoCurve s.text.now s.from) call.take_numbers.auto.1.1.1.0 none)
+    (subst (NoCurve s.text.now s.from) call.take_numbers.auto.out none)

@@ -11,27 +11,8 @@ use Rattle.reading.specs.declared.numbers.Number.{Number}
 use Rattle.reading.specs.declared.numbers.Number.TheVariants as number
 use Rattle.reading.specs.Numbers.{IsNumber}
 use Rattle.reading.proofs.Texts.{word-long, number_fits}
-use Rattle.make_sheet.specs.Sayings.{NotSoMany}
-use Rattle.make_sheet.proofs.Taking.{Passed, passed_none, passed-one, passed-all, NoNumber, passed_else, passed-more, passed_less}
-use borrow.Author.Rules.{rules}
+use Rattle.make_sheet.proofs.Taking.{Passed, passed_none, passed-one, passed-all, passed_else, passed-more, passed_less}
 use Rattle.make_sheet.proofs.lines.take_numbers.Goals as goal
-use Rattle.make_sheet.proofs.lines.take_numbers.Lts as at
-use Rattle.make_sheet.proofs.lines.take_numbers.Reads as reads
-use Rattle.make_sheet.proofs.lines.take_numbers.Tie as tie
-
--- at a word
-module _ (c : goal.After-find-end) where
-  abbrev start : at.Start tie.the-claims reads.Pre reads.Post goal.the-invariant-loop-at goal.the-decreases-loop-at
-  start = c.before.before.before.before.before
-
-  abbrev word : List ℕ
-  word = take (c.find-end.result - c.loop-at.at) (drop c.loop-at.at start.args.text.now)
-
-  not-a-number : (r : Number) → NoNumber r → IsNumber word r
-      → (c.loop-at.at ≤ length start.args.text.now) × NotSoMany start.args.text.now start.args.from (length c.loop-at.out)
-  not-a-number r none n =
-      let l = c.loop-at in
-      (l.invariant.within, passed_else start.args.text.now start.args.from (length start.args.out.now) l.out l.count l.at l.invariant c.find-end.result c.loop-at-test.true c.find-end.ensures r none n)
 
 pub loop-at-init : goal.loop-at-init
 loop-at-init c =
@@ -40,13 +21,13 @@ loop-at-init c =
 
 pub returns-in-TooLarge : goal.returns-in-TooLarge
 returns-in-TooLarge c =
-    let read = c in
-    not-a-number read.before.before number.TooLarge tt (subst (IsNumber (word read.before.before)) c.in-TooLarge.is read.number_in.ensures)
+    let l = c.loop-at in
+    (l.invariant.within, passed_else c.args.text.now c.args.from (length c.args.out.now) l.out l.count l.at l.invariant c.find-end.result c.loop-at-test.true c.find-end.ensures number.TooLarge tt c.in-TooLarge.ensures)
 
 pub returns-in-None : goal.returns-in-None
 returns-in-None c =
-    let read = c in
-    not-a-number read.before.before number.None tt (subst (IsNumber (word read.before.before)) c.in-None.is read.number_in.ensures)
+    let l = c.loop-at in
+    (l.invariant.within, passed_else c.args.text.now c.args.from (length c.args.out.now) l.out l.count l.at l.invariant c.find-end.result c.loop-at-test.true c.find-end.ensures number.None tt c.in-None.ensures)
 
 pub returns-then-count-out : goal.returns-then-count-out
 returns-then-count-out c =

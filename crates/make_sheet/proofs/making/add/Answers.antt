@@ -18,5 +18,5 @@ returns c =
     let append = c in
     let met = append in
     let s = met.args in
-    let h : Appended s.curve s.area.now append.append.new.0 c.changed.result = (append.append.result, append.append.ensures, c.changed.ensures) in
-    unless_ended (λ (st : Stage). Adds st s.curve s.area.now append.append.new.0 c.changed.result) h h s.stage met.match.keys2
+    let h : Appended s.curve s.area.now append.append.new.sheet c.changed.result = (append.append.result, append.append.ensures, c.changed.ensures) in
+    unless_ended (λ (st : Stage). Adds st s.curve s.area.now append.append.new.sheet c.changed.result) h h s.stage met.in_default.not-Ended

@@ -12,7 +12,7 @@ returns-in-Blank c =
     let call = c in
     let told = call in
     let s = told.args in
-    subst (λ (st : Stage). Begins st s.number s.area.now call.start.new.0 c.changed.result) (sym told.in-Blank.is)
+    subst (λ (st : Stage). Begins st s.number s.area.now call.start.new.sheet c.changed.result) (sym told.in-Blank.is)
     (call.start.result, call.start.ensures, c.changed.ensures)
 
 pub returns-in-Started : goal.returns-in-Started

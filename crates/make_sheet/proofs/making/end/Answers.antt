@@ -23,7 +23,7 @@ returns-then-count-area c =
     let is = walk.walk-records.ensures.end_is in
     let e = ap (λ (n : ℕ). ending_at n s.count) is in
     let h = sym (ends_long walk.walk-records.result.end s.count (omega (arith, walk.requires, walk.walk-records.ensures.end_fits, c.if-count-area.true))) ∙ e in
-    unless_ended (λ (st : Stage). step.Refused refusal.TooLong ≡ ending st s.count s.area.now) h h s.stage walk.before.match.keys2
+    unless_ended (λ (st : Stage). step.Refused refusal.TooLong ≡ ending st s.count s.area.now) h h s.stage walk.in_default.not-Ended
 
 pub returns : goal.returns
 returns c =
@@ -32,4 +32,4 @@ returns c =
     let is = walk.walk-records.ensures.end_is in
     let e = ap (λ (n : ℕ). ending_at n s.count) is in
     let h = sym (ends_short walk.walk-records.result.end s.count (omega (arith, walk.requires, walk.walk-records.ensures.end_fits, c.if-count-area.false))) ∙ e in
-    unless_ended (λ (st : Stage). step.Next (stage.Ended (walk.walk-records.result.end + s.count)) ≡ ending st s.count s.area.now) h h s.stage walk.before.match.keys2
+    unless_ended (λ (st : Stage). step.Next (stage.Ended (walk.walk-records.result.end + s.count)) ≡ ending st s.count s.area.now) h h s.stage walk.in_default.not-Ended

@@ -10,4 +10,4 @@ pub returns : goal.returns
 returns c =
     let s = c.args in
     let h = c.walk.ensures.end_is in
-    unless_ended (λ (st : Stage). c.walk.result.end ≡ size_in st s.area.now) h h s.stage c.before.match.keys2
+    unless_ended (λ (st : Stage). c.walk.result.end ≡ size_in st s.area.now) h h s.stage c.in_default.not-Ended

@@ -16,14 +16,14 @@ returns-in-Mission c =
     let call = c in
     let known = call in
     let s = known.args in
-    subst (λ (l : Line). Takes s.stage l s.area.now call.begin.new.0 call.begin.result) (sym known.in-Mission.is) call.begin.ensures
+    subst (λ (l : Line). Takes s.stage l s.area.now call.begin.new.area call.begin.result) (sym known.in-Mission.is) call.begin.ensures
 
 pub returns-in-Curve : goal.returns-in-Curve
 returns-in-Curve c =
     let call = c in
     let known = call in
     let s = known.args in
-    subst (λ (l : Line). Takes s.stage l s.area.now call.add.new.0 call.add.result) (sym known.in-Curve.is) call.add.ensures
+    subst (λ (l : Line). Takes s.stage l s.area.now call.add.new.area call.add.result) (sym known.in-Curve.is) call.add.ensures
 
 pub returns-in-Erased : goal.returns-in-Erased
 returns-in-Erased c =

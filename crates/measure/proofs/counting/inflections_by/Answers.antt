@@ -1,6 +1,5 @@
 -- `counting::inflections_by` meets its contract: the polynomial, its count and its mark.
 use mathlib.Core.Path.{sym, subst}
-use borrow.Author.Rules.{rules}
 use Rattle.measure.specs.Steps.{Moderate}
 use Rattle.measure.proofs.Sizes.{turning_moderate}
 use Rattle.measure.proofs.counting.inflections_by.Goals as goal

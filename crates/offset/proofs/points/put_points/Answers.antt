@@ -1,8 +1,7 @@
 -- `points::put_points` meets its contract. The invariant is Turn: what is written, and what the rows still give, are all numbers.
 use mathlib.Core.List.{List}
-use Prim.Native.Nat.{ℕ, ◌+◌, ◌-◌, ◌≤◌, ◌<◌}
+use Prim.Native.Nat.{ℕ, ◌+◌, ◌≤◌, ◌<◌}
 use native.Mathlib.Omega.{arith}
-use borrow.Author.Rules.{rules}
 use lib.IntN.{ℤ}
 use lib.ListN.{length, set, length-set}
 use mir.Syntax.{w64}
@@ -20,12 +19,11 @@ use Rattle.offset.proofs.points.put_points.Tie as tie
 
 pub loop-i-init : goal.loop-i-init
 loop-i-init c =
-    let o = c in
-    let p = o.requires in
-    turn-start o.args.area.now o.args.count o.args.rows.w o.args.rows.x o.args.rows.y p.room_is p.few p.w p.x p.y
+    let p = c.requires in
+    turn-start c.args.area.now c.args.count c.args.rows.w c.args.rows.x c.args.rows.y p.room_is p.few p.w p.x p.y
 
 -- what is known in a turn
-module _ (c : goal.After-struct_told-in-loop-i-2-1) where
+module _ (c : at.After-struct_told3 tie.the-claims reads.Pre reads.Post goal.the-invariant-loop-i goal.the-decreases-loop-i) where
   abbrev s : at.Start tie.the-claims reads.Pre reads.Post goal.the-invariant-loop-i goal.the-decreases-loop-i
   s = c.before.before.before.before.before.before.before.before
 
@@ -66,39 +64,37 @@ module _ (c : goal.After-struct_told-in-loop-i-2-1) where
   y_small = doubled_fits turn.turns y (turn-left turn more).0 turn.y_small
 
 pub bounds-area-i-in-loop-i : goal.bounds-area-i-in-loop-i
-bounds-area-i-in-loop-i c = omega (arith, room c, length-set (area c) (i c) (to_z w64 (of_z w64 (w c).e0)))
+bounds-area-i-in-loop-i c = omega (arith, room c.before, length-set (area c.before) (i c.before) (to_z w64 (of_z w64 (w c.before).e0)))
 
 pub bounds-area-i-in-loop-i-2 : goal.bounds-area-i-in-loop-i-2
 bounds-area-i-in-loop-i-2 c = omega (
   arith,
-  room c,
-  length-set (area c) (i c) (to_z w64 (of_z w64 (w c).e0)),
-  length-set (set (area c) (i c) (to_z w64 (of_z w64 (w c).e0))) (i c + 1) (to_z w64 (of_z w64 (x c).e0)),
+  room c.before,
+  length-set (area c.before) (i c.before) (to_z w64 (of_z w64 (w c.before).e0)),
+  length-set (set (area c.before) (i c.before) (to_z w64 (of_z w64 (w c.before).e0))) (i c.before + 1) (to_z w64 (of_z w64 (x c.before).e0)),
 )
 
 pub next-w-requires : goal.next-w-requires
-next-w-requires c = w_small c
+next-w-requires c = w_small c.before
 
 pub next-x-requires : goal.next-x-requires
-next-x-requires c = x_small c.before
+next-x-requires c = x_small c.before.before
 
 pub next-y-requires : goal.next-y-requires
-next-y-requires c = y_small c.before.before
+next-y-requires c = y_small c.before.before.before
 
 pub overflow_add-i : goal.overflow_add-i
 overflow_add-i c =
-    let t = c.before.before.before in
-    let p = (s t).requires in
-    omega (arith, turn-left (turn t) (more t), p.room_is, p.few)
+    let p = (s c.before.before.before).requires in
+    omega (arith, turn-left (turn c.before.before.before) (more c.before.before.before), p.room_is, p.few)
 
 pub loop-i-smaller : goal.loop-i-smaller
 loop-i-smaller c = omega (arith, more c.before.before.before)
 
 pub loop-i-preserved : goal.loop-i-preserved
 loop-i-preserved c =
-    let t = c.before.before.before in
-    rw (read_back tt (w_small t 0), read_back tt (x_small t 0), read_back tt (y_small t 0))
-    (turn_more (turn t) (more t) c.next-w.ensures c.next-x.ensures c.next-y.ensures)
+    rw (read_back tt (w_small c.before.before.before 0), read_back tt (x_small c.before.before.before 0), read_back tt (y_small c.before.before.before 0))
+    (turn_more (turn c.before.before.before) (more c.before.before.before) c.next-w.ensures c.next-x.ensures c.next-y.ensures)
 
 pub shape_of-area : goal.shape_of-area
 shape_of-area c = turn-long c.loop-i.invariant

@@ -1,7 +1,6 @@
 -- `terms::legs` meets its contract.
 use mathlib.Core.Path.{◌≡◌, refl, sym, subst}
 use Prim.Native.Nat.{◌-◌}
-use borrow.Author.Rules.{rules}
 use lib.IntN.{pos}
 use lib.ListN.{length}
 use Rattle.curve.specs.Curves.{points_of}

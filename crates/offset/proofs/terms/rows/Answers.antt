@@ -3,7 +3,6 @@ use mathlib.Core.Path.{◌≡◌, refl, sym, ap, ◌∙◌, subst}
 use mathlib.Core.List.{List}
 use Prim.Native.Nat.{ℕ, ◌-◌, ◌≤◌}
 use native.Mathlib.Omega.{arith}
-use borrow.Author.Rules.{rules}
 use lib.IntN.{ℤ, pos, neg_ℤ, ◌-ℤ◌, +ℤ_idl}
 use lib.ListN.{length, get_or-map}
 use mir.Syntax.{w64}
@@ -40,15 +39,14 @@ legs_of-requires c = c.requires.range
 
 pub drawn-d-requires : goal.drawn-d-requires
 drawn-d-requires c k =
-    let s = c in
-    subst (λ (l : List Pair). PartsWithin leg_reach (at pairs l k)) (sym c.legs_of.ensures) (legs-within (points_of s.args.curve) s.requires.range k)
+    subst (λ (l : List Pair). PartsWithin leg_reach (at pairs l k)) (sym c.legs_of.ensures) (legs-within (points_of c.args.curve) c.requires.range k)
 
 -- ---- what is known of D and of r, once D is drawn
 module _ (c : at.After-imaginaries tie.the-claims reads.Pre reads.Post) where
-  abbrev drew : goal.After-drawn-d
+  abbrev drew : at.After-drawn tie.the-claims reads.Pre reads.Post
   drew = c.before.before
 
-  abbrev o : goal.Start
+  abbrev o : at.Start tie.the-claims reads.Pre reads.Post
   o = drew.before.before.before.before
 
   abbrev ps : List Pair
@@ -97,10 +95,10 @@ module _ (c : at.After-imaginaries tie.the-claims reads.Pre reads.Post) where
   im-asked = subst (PathAsked (quartic im)) (sym n-is) (path-asked im-part ps (quartic im) im-is short im_small)
 
 pub path-x-requires : goal.path-x-requires
-path-x-requires c = re-asked c.before
+path-x-requires c = re-asked c.before.before
 
 pub path-y-requires : goal.path-y-requires
-path-y-requires c = im-asked c.before.before.before
+path-y-requires c = im-asked c.before.before.before.before
 
 -- ---- what is known of r, once its paths are made
 module _ (c : goal.After-path-y) where
@@ -202,12 +200,12 @@ returns c =
     let s = c.before.before.before in
     let t = p s in
     record {
-      w = weighted_of (curve s) (nonic s.extended-c.result) (nonic s.weights-s.result) _ (λ k. root_size) s.weights-s.ensures c.weighted-ws.ensures s.extended-c.ensures (w-sized s)
+      w = weighted_of (curve s) (nonic c.extended-c.result) (nonic c.weights-s.result) _ (λ k. root_size) c.weights-s.ensures c.weighted-ws.ensures c.extended-c.ensures (w-sized s)
           (λ k. omega (arith, weight-least (curve s) k));
-      x = weighted_of (curve s) (nonic s.row-a.result) (nonic s.weights-s.result) _ (row_size 5) s.weights-s.ensures c.weighted-xs.ensures
-          (coordinate re-part im-part (ps (g t)) (quartic (o (g t)).args.w) (x t) (quartic (im (g t))) (nonic s.row-a.result) (h t) (x-is t) (im-is (g t)) (rw (h-kept t) at s.row-a.ensures))
+      x = weighted_of (curve s) (nonic c.row-a.result) (nonic c.weights-s.result) _ (row_size 5) c.weights-s.ensures c.weighted-xs.ensures
+          (coordinate re-part im-part (ps (g t)) (quartic (o (g t)).args.w) (x t) (quartic (im (g t))) (nonic c.row-a.result) (h t) (x-is t) (im-is (g t)) (rw (h-kept t) at c.row-a.ensures))
           (x-sized s) (weight-size (curve s));
-      y = weighted_of (curve s) (nonic s.row-b.result) (nonic s.weights-s.result) _ (row_size 5) s.weights-s.ensures c.weighted-ys.ensures
-          (coordinate im-part re-part (ps (g t)) (quartic (o (g t)).args.w) (y t) (quartic (re (g t))) (nonic s.row-b.result) (neg_ℤ (h t)) (y-is t) (re-is (g t)) (rw (less_is t) at s.row-b.ensures))
+      y = weighted_of (curve s) (nonic c.row-b.result) (nonic c.weights-s.result) _ (row_size 5) c.weights-s.ensures c.weighted-ys.ensures
+          (coordinate im-part re-part (ps (g t)) (quartic (o (g t)).args.w) (y t) (quartic (re (g t))) (nonic c.row-b.result) (neg_ℤ (h t)) (y-is t) (re-is (g t)) (rw (less_is t) at c.row-b.ensures))
           (y-sized s) (weight-size (curve s));
     }

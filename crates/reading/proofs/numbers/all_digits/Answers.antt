@@ -1,9 +1,6 @@
 -- `numbers::all_digits` meets its contract: every byte that is passed is a digit.
-use Prim.Native.Nat.{ℕ, ◌-◌, ◌≤◌, ◌<◌}
 use native.Mathlib.Omega.{arith}
-use lib.ListN.{length, get_or}
 use borrow.Author.Count.{below_more}
-use Rattle.reading.specs.Numbers.{Digit}
 use borrow.Author.Rules.{rules}
 use Rattle.reading.proofs.numbers.all_digits.Goals as goal
 

@@ -1,10 +1,7 @@
 -- What the loops of `numbers::all_digits` keep.
 use Prim.Native.Nat.{ℕ, ◌-◌, ◌≤◌, ◌<◌}
-use native.Mathlib.Omega.{arith}
 use lib.ListN.{length, get_or}
-use borrow.Author.Count.{below_more}
 use Rattle.reading.specs.Numbers.{Digit}
-use borrow.Author.Rules.{rules}
 use Rattle.reading.proofs.numbers.all_digits.Given as goal
 
 abbrev pub invariant-loop-at : goal.invariant-loop-at

@@ -1,5 +1,4 @@
 -- `numbers::number_in` meets its contract: behind the sign stand the digits.
-use borrow.Author.Rules.{rules}
 use native.Mathlib.Omega.{arith}
 use lib.ListN.{length, drop, length-drop}
 use lib.Seq.{take_all}

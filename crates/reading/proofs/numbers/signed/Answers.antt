@@ -1,5 +1,4 @@
 -- `numbers::signed` meets its contract: below 2⁶³ the negative fits.
-use borrow.Author.Rules.{rules}
 use mathlib.Core.Path.{◌≡◌, sym, ap, ◌∙◌, subst}
 use mathlib.Core.Bool.{Bool}
 use Prim.Native.Nat.{ℕ, ◌<◌}

@@ -1,5 +1,4 @@
 -- `numbers::size_in` meets its contract.
-use borrow.Author.Rules.{rules}
 use mathlib.Core.Path.{subst}
 use native.Mathlib.Omega.{arith}
 use Rattle.whole.specs.Number.{Tells}

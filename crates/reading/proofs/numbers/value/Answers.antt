@@ -1,12 +1,12 @@
 -- `numbers::value` meets its contract: the number so far, and the digits behind it, are worth what all are worth.
 use mathlib.Core.Path.{◌≡◌, sym, ap, ◌∙◌}
-use Prim.Native.Nat.{ℕ, suc, ◌+◌, ◌-◌, ◌*◌, ◌≤◌, ◌<◌}
+use Prim.Native.Nat.{ℕ, suc, ◌+◌, ◌-◌, ◌*◌}
 use native.Mathlib.Omega.{arith}
 use lib.ListN.{length, get_or, drop}
 use native.Mathlib.Numerals.{add-one}
 use lib.Seq.{drop-cons, drop-length}
 use Rattle.reading.proofs.Digits.{value_grows}
-use Rattle.reading.specs.Numbers.{value_of, value_from}
+use Rattle.reading.specs.Numbers.{value_from}
 use borrow.Author.Rules.{rules}
 use Rattle.reading.proofs.numbers.value.Goals as goal
 

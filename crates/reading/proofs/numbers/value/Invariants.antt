@@ -1,13 +1,8 @@
 -- What the loops of `numbers::value` keep.
-use mathlib.Core.Path.{◌≡◌, sym, ap, ◌∙◌}
-use Prim.Native.Nat.{ℕ, suc, ◌+◌, ◌-◌, ◌*◌, ◌≤◌, ◌<◌}
-use native.Mathlib.Omega.{arith}
-use lib.ListN.{length, get_or, drop}
-use native.Mathlib.Numerals.{add-one}
-use lib.Seq.{drop-cons, drop-length}
-use Rattle.reading.proofs.Digits.{value_grows}
+use mathlib.Core.Path.{◌≡◌}
+use Prim.Native.Nat.{◌-◌, ◌≤◌, ◌<◌}
+use lib.ListN.{length, drop}
 use Rattle.reading.specs.Numbers.{value_of, value_from}
-use borrow.Author.Rules.{rules}
 use Rattle.reading.proofs.numbers.value.Given as goal
 
 abbrev pub invariant-loop-at : goal.invariant-loop-at

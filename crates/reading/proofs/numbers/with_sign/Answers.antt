@@ -1,5 +1,4 @@
 -- `numbers::with_sign` meets its contract.
-use borrow.Author.Rules.{rules}
 use mathlib.Core.Path.{subst}
 use Prim.Native.Nat.{ℕ}
 use Rattle.reading.specs.Numbers.{value_of, IsSize, IsSigned}

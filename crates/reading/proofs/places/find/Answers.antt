@@ -1,7 +1,6 @@
 -- `places::find` meets its contract: what is passed is not what is sought.
-use Prim.Native.Nat.{ℕ, ◌-◌, ◌≤◌, ◌<◌}
 use native.Mathlib.Omega.{arith}
-use lib.ListN.{length, get_or}
+use lib.ListN.{get_or}
 use borrow.Author.Count.{below_more}
 use mathlib.Core.Path.{subst}
 use Rattle.whole.specs.Number.{Tells}

@@ -1,12 +1,7 @@
 -- What the loops of `places::find` keep.
 use Prim.Native.Nat.{ℕ, ◌-◌, ◌≤◌, ◌<◌}
-use native.Mathlib.Omega.{arith}
 use lib.ListN.{length, get_or}
-use borrow.Author.Count.{below_more}
-use mathlib.Core.Path.{subst}
-use Rattle.whole.specs.Number.{Tells}
 use Rattle.reading.specs.Places.{IsSought}
-use borrow.Author.Rules.{rules}
 use Rattle.reading.proofs.places.find.Given as goal
 
 abbrev pub invariant-loop-at : goal.invariant-loop-at

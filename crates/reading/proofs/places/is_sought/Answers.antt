@@ -1,5 +1,4 @@
 -- `places::is_sought` meets its contract.
-use borrow.Author.Rules.{rules}
 use mathlib.Core.Path.{sym, subst}
 use mathlib.Core.Bool.{Bool, true, false, not}
 use Rattle.whole.specs.Number.{Tells}

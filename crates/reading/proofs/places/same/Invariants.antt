@@ -1,12 +1,7 @@
 -- What the loops of `places::same` keep.
-use mathlib.Core.Path.{◌≡◌, ap}
+use mathlib.Core.Path.{◌≡◌}
 use Prim.Native.Nat.{ℕ, ◌-◌, ◌≤◌, ◌<◌}
-use native.Mathlib.Omega.{arith}
 use lib.ListN.{length, get_or}
-use borrow.Author.Rules.{rules}
-use mathlib.Core.List.{List}
-use borrow.Author.Count.{below_more}
-use lib.Seq.{ext_get_or}
 use Rattle.reading.proofs.places.same.Given as goal
 
 abbrev pub invariant-loop-i : goal.invariant-loop-i

@@ -5,7 +5,7 @@ use mathlib.Core.Bool.{true, false≢true}
 use mathlib.Core.List.{List}
 use Prim.Native.Nat.{ℕ}
 use native.Mathlib.Omega.{arith}
-use Rattle.refusal.specs.Answers.{if◌then◌else◌}
+use Rattle.refusal.specs.Answers.{when◌then◌else◌}
 use Rattle.record.specs.declared.kinds.Kind.TheVariants.{Header, Cubic, Quintic}
 use Rattle.record.specs.Numbers.{word_at}
 use Rattle.record.specs.Records.{may_stand}
@@ -14,12 +14,12 @@ use Rattle.record.proofs.steps.first_step.Goals as goal
 use Rattle.record.proofs.steps.first_step.Goals.{then-rest-ge4+else-word_at-head_word, else-rest-ge4}
 
 pub record_step-requires : goal.record_step-requires
-unfolding may_stand if◌then◌else◌
+unfolding may_stand when◌then◌else◌
 record_step-requires c = search rules
 
 -- the table, kind by kind
 no_header : {s : List ℕ} → (word_at s 0 ≡ head_word Header → ⊥) → Headless true s
-unfolding may_stand if◌then◌else◌
+unfolding may_stand when◌then◌else◌
 no_header f Header m h = f h.head
 no_header f Cubic m h = false≢true m
 no_header f Quintic m h = false≢true m

@@ -1,7 +1,7 @@
 -- `steps::headless_step` meets its contract: its tests are those of the definition, in the same order. Without its head a known kind has a wrong length.
 use borrow.Author.Tests.{eq-eqb, ne_eqb, lt-ltb, le-ltb}
 use mathlib.Core.Path.{sym, ◌∙◌}
-use Rattle.refusal.specs.Answers.{if◌then◌else◌}
+use Rattle.refusal.specs.Answers.{when◌then◌else◌}
 use Rattle.record.specs.Kinds.{kinds}
 use Rattle.record.specs.Records.{sized_step, step_of}
 use Rattle.record.proofs.Table.{named-is}
@@ -9,19 +9,19 @@ use Rattle.record.proofs.Heads.{head_made}
 use Rattle.record.proofs.steps.headless_step.Goals as goal
 
 pub returns-then-left-eq0 : goal.returns-then-left-eq0
-unfolding step_of if◌then◌else◌
+unfolding step_of when◌then◌else◌
 returns-then-left-eq0 c = rw (eq-eqb _ _ c.if-left-eq0.true)
 
 pub returns-then-rest : goal.returns-then-rest
-unfolding step_of if◌then◌else◌
+unfolding step_of when◌then◌else◌
 returns-then-rest c = rw (ne_eqb _ _ c.if-left-eq0.false, eq-eqb _ _ c.if-left-eq1.true, eq-eqb _ _ c.if-rest.true)
 
 pub returns-then-left-eq1 : goal.returns-then-left-eq1
-unfolding step_of if◌then◌else◌
+unfolding step_of when◌then◌else◌
 returns-then-left-eq1 c = rw (ne_eqb _ _ c.if-left-eq0.false, eq-eqb _ _ c.if-left-eq1.true, ne_eqb _ _ c.if-rest.false)
 
 pub returns-then-half_at-eq-ERASED_LENGTH : goal.returns-then-half_at-eq-ERASED_LENGTH
-unfolding step_of if◌then◌else◌
+unfolding step_of when◌then◌else◌
 returns-then-half_at-eq-ERASED_LENGTH c =
     rw (
       ne_eqb _ _ c.if-left-eq0.false,
@@ -31,7 +31,7 @@ returns-then-half_at-eq-ERASED_LENGTH c =
     c.erased_step.ensures
 
 pub returns-then-left-lt4 : goal.returns-then-left-lt4
-unfolding step_of if◌then◌else◌
+unfolding step_of when◌then◌else◌
 returns-then-left-lt4 c =
     rw (
       ne_eqb _ _ c.if-left-eq0.false,
@@ -42,7 +42,7 @@ returns-then-left-lt4 c =
 
 -- a kind that may stand there has another length
 pub returns-then-may_stand : goal.returns-then-may_stand
-unfolding step_of sized_step if◌then◌else◌
+unfolding step_of sized_step when◌then◌else◌
 returns-then-may_stand c =
     let rest = c.args.rest.now in
     let told = sym c.kind_in.ensures ∙ c.in-Kind.is in
@@ -58,7 +58,7 @@ returns-then-may_stand c =
     )
 
 pub returns-else-may_stand : goal.returns-else-may_stand
-unfolding step_of if◌then◌else◌
+unfolding step_of when◌then◌else◌
 returns-else-may_stand c =
     rw (
       ne_eqb _ _ c.if-left-eq0.false,
@@ -70,7 +70,7 @@ returns-else-may_stand c =
     )
 
 pub returns-in-Unknown : goal.returns-in-Unknown
-unfolding step_of if◌then◌else◌
+unfolding step_of when◌then◌else◌
 returns-in-Unknown c =
     rw (
       ne_eqb _ _ c.if-left-eq0.false,

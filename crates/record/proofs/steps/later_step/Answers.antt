@@ -6,7 +6,7 @@ use mathlib.Core.List.{List}
 use Prim.Native.Nat.{ℕ}
 use native.Mathlib.Omega.{arith}
 use Rattle.record.specs.declared.kinds.Kind.TheVariants.{Header, Cubic, Quintic}
-use Rattle.refusal.specs.Answers.{if◌then◌else◌}
+use Rattle.refusal.specs.Answers.{when◌then◌else◌}
 use Rattle.record.specs.Numbers.{word_at}
 use Rattle.record.specs.Records.{may_stand}
 use Rattle.record.specs.Steps.{head_word, Headless}
@@ -14,16 +14,16 @@ use Rattle.record.proofs.steps.later_step.Goals as goal
 use Rattle.record.proofs.steps.later_step.Goals.{then-rest-ge4+else-head-head_word+else-head-head_word-2, else-rest-ge4}
 
 pub record_step-requires : goal.record_step-requires
-unfolding may_stand if◌then◌else◌
+unfolding may_stand when◌then◌else◌
 record_step-requires c = search rules
 
 pub record_step-requires-then-head-head_word-2 : goal.record_step-requires-then-head-head_word-2
-unfolding may_stand if◌then◌else◌
+unfolding may_stand when◌then◌else◌
 record_step-requires-then-head-head_word-2 c = search rules
 
 -- the table, kind by kind
 neither : {s : List ℕ} → (word_at s 0 ≡ head_word Cubic → ⊥) → (word_at s 0 ≡ head_word Quintic → ⊥) → Headless false s
-unfolding may_stand if◌then◌else◌
+unfolding may_stand when◌then◌else◌
 neither f g Header m h = false≢true m
 neither f g Cubic m h = f h.head
 neither f g Quintic m h = g h.head

@@ -9,7 +9,7 @@ use lib.ListN.{length, get_or}
 use mir.Syntax.{w8}
 use mir.Val.{Fits}
 use Rattle.refusal.specs.declared.Refusal.TheVariants as refusal
-use Rattle.refusal.specs.Answers.{if◌then◌else◌}
+use Rattle.refusal.specs.Answers.{when◌then◌else◌}
 use Rattle.record.specs.declared.kinds.Kind.{Kind}
 use Rattle.record.specs.declared.kinds.Row.{Row}
 use Rattle.record.specs.declared.steps.Step.TheVariants.{Fault, Record}
@@ -33,17 +33,17 @@ module _ (kind : Kind) (rest : List ℕ) (bytes : (i : ℕ) → Fits w8 (get_or 
   step_is = headed_step kind rest bytes h.1 first h.0
 
   cut_short : length rest < row.size → Fault refusal.Cut 0 ≡ step_of first rest
-  unfolding sized_step if◌then◌else◌
+  unfolding sized_step when◌then◌else◌
   cut_short short = rw (step_is, eq-eqb _ _ sized, lt-ltb _ _ (rw size_is at short))
 
   -- by the test of the coordinates, as many as the table says
   module _ (long : row.size ≤ length rest) {b : Bool} (range : b ≡ all_within (coordinates (words_of kind) rest 4)) where
     found : b ≡ true → Record kind ≡ step_of first rest
-    unfolding sized_step if◌then◌else◌
+    unfolding sized_step when◌then◌else◌
     found e = rw (step_is, eq-eqb _ _ sized, le-ltb _ _ (rw size_is at long), sym range ∙ e)
 
     out_of_range : b ≡ false → Fault refusal.Range 0 ≡ step_of first rest
-    unfolding sized_step if◌then◌else◌
+    unfolding sized_step when◌then◌else◌
     out_of_range e = rw (step_is, eq-eqb _ _ sized, le-ltb _ _ (rw size_is at long), sym range ∙ e)
 
 pub returns-then-rest-row_of : goal.returns-then-rest-row_of

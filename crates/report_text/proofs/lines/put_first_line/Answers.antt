@@ -1,5 +1,4 @@
 -- `lines::put_first_line` meets its contract: the mission, how many curves there are, and the line's end.
-use borrow.Author.Rules.{rules}
 use Rattle.text.proofs.Pieces.{◌then◌}
 use Rattle.report_text.proofs.lines.put_first_line.Goals as goal
 

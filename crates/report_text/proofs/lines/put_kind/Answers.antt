@@ -1,5 +1,4 @@
 -- `lines::put_kind` meets its contract: the kind's name, between blanks.
-use borrow.Author.Rules.{rules}
 use mathlib.Core.Path.{ap, ◌∙◌}
 use Rattle.record.specs.declared.kinds.Row.{Row}
 use Rattle.record.specs.Kinds.{row_of}

@@ -1,5 +1,4 @@
 -- `lines::put_line` meets its contract: number, kind, verdict and the line's end.
-use borrow.Author.Rules.{rules}
 use Rattle.text.proofs.Pieces.{◌then◌}
 use Rattle.report_text.proofs.lines.put_line.Goals as goal
 

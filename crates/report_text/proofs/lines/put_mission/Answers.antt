@@ -1,5 +1,4 @@
 -- `lines::put_mission` meets its contract: the number, or that there is none.
-use borrow.Author.Rules.{rules}
 use mathlib.Core.Path.{sym, ap}
 use Rattle.text.proofs.Pieces.{writes_same}
 use Rattle.report_text.specs.Texts.{mission_text}

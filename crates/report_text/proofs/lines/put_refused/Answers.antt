@@ -1,5 +1,4 @@
 -- `lines::put_refused` meets its contract: the refusal's number and its place.
-use borrow.Author.Rules.{rules}
 use mathlib.Core.Path.{ap}
 use mathlib.Core.List.{◌++◌}
 use Prim.Native.Nat.{ℕ}

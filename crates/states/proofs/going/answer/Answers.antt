@@ -6,7 +6,7 @@ use Prim.Native.Nat.{ℕ, ◌+◌, ◌≤◌}
 use lib.ListN.{length, take}
 use Rattle.refusal.specs.declared.Refusal.{Refusal}
 use Rattle.refusal.specs.declared.Fault.{Fault}
-use Rattle.refusal.specs.Answers.{if◌then◌else◌}
+use Rattle.refusal.specs.Answers.{when◌then◌else◌}
 use Rattle.record.specs.declared.steps.Step.{Step}
 use Rattle.record.specs.declared.steps.Step.TheVariants as step
 use Rattle.sheet.specs.declared.Mission.{Mission}
@@ -24,7 +24,7 @@ use Rattle.states.proofs.Answered.{front_long, answer_by_lem, fault_within, left
 use Rattle.states.proofs.going.answer.Goals as goal
 
 pub returns-then-state-gt-LONGEST : goal.returns-then-state-gt-LONGEST
-unfolding answer_in if◌then◌else◌
+unfolding answer_in when◌then◌else◌
 returns-then-state-gt-LONGEST c = rw (lt-ltb _ _ c.if-state-gt-LONGEST.true) (ap checked.Refused c.nowhere.ensures)
 
 -- the state stands

@@ -7,7 +7,7 @@ use native.Mathlib.Omega.{arith}
 use lib.ListN.{length, take, drop, replicate}
 use lib.Seq.{take_at, length-take-le}
 use borrow.Author.Tests.{eq-eqb, ne_eqb}
-use Rattle.refusal.specs.Answers.{if◌then◌else◌}
+use Rattle.refusal.specs.Answers.{when◌then◌else◌}
 use Rattle.record.specs.Kinds.{longest_record}
 use Rattle.record.specs.Records.{longest}
 use Rattle.sheet.specs.declared.walks.Walked.{Walked}
@@ -88,12 +88,12 @@ module _ (st : State) (part : List ℕ) (h : Standing st × (st.count + length p
     -- with records, the state behind them
     with_records : 0 < w.end → {mission : ℕ} {r : State} → mission ≡ mission_on st front
         → r ≡ after_records st (st.count + length part) mission w.curves w.end (take (length part - (w.end - behind_in st)) (drop (w.end - behind_in st) part)) → r ≡ onward st part
-    unfolding onward if◌then◌else◌
+    unfolding onward when◌then◌else◌
     with_records l {mission} m e =
         let count = st.count + length part in
         let some : (survey_of first seen).end ≡ 0 → ⊥ = λ q. omega (arith, q, end_is, l) in
         let own : mission ≡ mission_on st seen =
-        m ∙ ap (mission_on st) front-is ∙ ap (λ (n : ℕ). if first_in st then n else st.mission) (mission-padded seen (56 - length seen))
+        m ∙ ap (mission_on st) front-is ∙ ap (λ (n : ℕ). when first_in st then n else st.mission) (mission-padded seen (56 - length seen))
         in
         rw (ne_eqb (survey_of first seen).end 0 some)
         (e
@@ -103,7 +103,7 @@ module _ (st : State) (part : List ℕ) (h : Standing st × (st.count + length p
     -- without, the same records and a longer front
     with_none : w.end ≤ 0 → {erased : ℕ} {words : List ℕ} → erased ≡ erased_on st part → words ≡ packed front
         → record { ended = 0; count = st.count + length part; mission = st.mission; curves = st.curves; place = st.place; erased = erased; words = words } ≡ onward st part
-    unfolding onward grown if◌then◌else◌
+    unfolding onward grown when◌then◌else◌
     with_none l e q =
         let none : (survey_of first seen).end ≡ 0 = omega (arith, end_is, l) in
         rw (eq-eqb (survey_of first seen).end 0 none)

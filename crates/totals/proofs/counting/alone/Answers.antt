@@ -1,7 +1,6 @@
 -- `counting::alone` meets its contract, verdict by verdict.
 use mathlib.Core.Path.{sym, ap}
 use Rattle.totals.specs.Totals.{length_at}
-use borrow.Author.Rules.{rules}
 use Rattle.totals.proofs.counting.alone.Goals as goal
 
 pub returns-in-Pre : goal.returns-in-Pre

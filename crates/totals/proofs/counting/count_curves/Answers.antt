@@ -1,23 +1,22 @@
 -- `counting::count_curves` meets its contract. Invariant: the first k curves are counted, and the next record stands at `next`.
-use borrow.Author.Rules.{rules}
 use mathlib.Core.Path.{◌≡◌, sym, subst}
 use mathlib.Core.List.{List}
-use Prim.Native.Nat.{ℕ, suc, ◌+◌, ◌-◌, ◌≤◌, ◌<◌}
+use Prim.Native.Nat.{ℕ, suc, ◌+◌, ◌-◌, ◌<◌}
 use native.Mathlib.Omega.{arith}
-use lib.ListN.{drop}
+use lib.ListN.{length, take, drop}
 use Rattle.curve.specs.declared.Curve.{Curve}
 use Rattle.record.specs.declared.kinds.Row.{Row}
 use Rattle.record.specs.declared.points.Held.{Held}
 use Rattle.record.specs.Promise.{IsHeld}
-use Rattle.sheet.specs.Promise.{HasCurve}
+use Rattle.refusal.specs.Answers.{given, with_given}
+use Rattle.record.specs.declared.points.Held.TheVariants as held
+use Rattle.sheet.specs.Survey.{outcome}
+use Rattle.sheet.specs.Promise.{HasCurve, count_of}
 use Rattle.sheet.proofs.Passed.{rest-is}
 use Rattle.sheet.proofs.Ahead.{curve_in_range, Ahead, ahead_fits, ahead_near, ahead_held, passed}
 use Rattle.totals.specs.Steps.{CountsCurves}
 use Rattle.totals.proofs.Walked.{curves-none, curves-next, counted_sound, first_ahead}
 use Rattle.totals.proofs.counting.count_curves.Goals as goal
-use Rattle.totals.proofs.counting.count_curves.Lts as at
-use Rattle.totals.proofs.counting.count_curves.Reads as reads
-use Rattle.totals.proofs.counting.count_curves.Tie as tie
 
 pub loop-k-init : goal.loop-k-init
 loop-k-init c =
@@ -29,78 +28,62 @@ loop-k-init c =
       subst (λ (r : Row). Ahead sheet count 0 r.size) (sym c.row_of-next.ensures) (first_ahead sheet count s.requires),
     )
 
--- the record ahead
-module _ (c : goal.In-loop-k) where
-  abbrev start : at.Start tie.the-claims reads.Pre reads.Post goal.the-invariant-loop-k goal.the-decreases-loop-k
-  start = c.before.before.before.before
-
-  abbrev sheet : List ℕ
-  sheet = start.args.sheet.now
-
-  abbrev count : ℕ
-  count = start.args.count
-
-  abbrev k : ℕ
-  k = c.loop-k.k
-
-  abbrev next : ℕ
-  next = c.loop-k.next
-
-  left : k < count
-  left = c.loop-k-test.true
-
-  ahead : Ahead sheet count k next
-  ahead = c.loop-k.invariant.2
-
 pub slice_bounds-held_curve-count : goal.slice_bounds-held_curve-count
-slice_bounds-held_curve-count c = omega (arith, ahead_fits (sheet c) (count c) (k c) (next c) (left c) (ahead c))
+slice_bounds-held_curve-count c = omega (arith, ahead_fits c.args.sheet.now c.args.count c.loop-k.k c.loop-k.next c.loop-k-test.true c.loop-k.invariant.2)
 
-held_there : (c : at.After-held_curve tie.the-claims reads.Pre reads.Post goal.the-invariant-loop-k goal.the-decreases-loop-k) {x : Held} → c.held_curve.result ≡ x → let i = c.before.before in IsHeld (drop (next i) (sheet i)) x
-held_there c e =
-    let i = c.before.before in
-    subst (IsHeld (drop (next i) (sheet i))) e (subst (λ (rest : List ℕ). IsHeld rest c.held_curve.result) (rest-is (sheet i) (next i)) c.held_curve.ensures)
+pub slice_bounds-held_curve-start : goal.slice_bounds-held_curve-start
+slice_bounds-held_curve-start c = omega (arith, ahead_fits c.args.sheet.now c.args.count c.loop-k.k c.loop-k.next c.loop-k-test.true c.loop-k.invariant.2)
+
+-- what is held ahead, by its case
+held_there : (s : List ℕ) (next : ℕ) {r x : Held} → IsHeld (take (length s - next) (drop next s)) r → r ≡ x → IsHeld (drop next s) x
+held_there s next {r} h e = subst (IsHeld (drop next s)) e (subst (λ (rest : List ℕ). IsHeld rest r) (rest-is s next) h)
 
 pub returns-in_default : goal.returns-in_default
 returns-in_default c =
-    let h = c.before.before in
-    let i = h.before.before in
-    absurd (ahead_held (sheet i) (count i) (k i) (next i) (left i) (ahead i) (held_there h c.in_default.is))
+    let s = c.args.sheet.now in
+    let l = c.loop-k in
+    absurd (ahead_held s c.args.count l.k l.next c.loop-k-test.true l.invariant.2 (held_there s l.next c.held_curve.ensures c.in_default.is))
 
 -- the curve that is held there
-module _ (c : goal.In-Curve) where
-  abbrev inside : goal.In-loop-k
-  inside = c.before.before.before.before.before
-
-  abbrev curve : Curve
-  curve = c.in-Curve.curve
-
-  abbrev size : ℕ
-  size = c.in-Curve.size
-
-  read : HasCurve (sheet inside) (suc (k inside)) curve × (size ≡ (ahead inside (left inside)).0) × Ahead (sheet inside) (count inside) (k inside + 1) (next inside + size)
-  read =
-      passed (sheet inside) (count inside) (k inside) (next inside) (left inside) (ahead inside) (counted_sound (sheet inside) (count inside) (start inside).requires (omega (arith, left inside))) curve size
-      (held_there c.before.before.before c.in-Curve.is)
+read :
+    (s : List ℕ) (count k next : ℕ) (l : k < count) (a : Ahead s count k next) → with_given count_of (outcome s) ≡ given count → {r : Held} (curve : Curve) (size : ℕ) →
+    IsHeld (take (length s - next) (drop next s)) r → r ≡ held.Curve curve size → HasCurve s (suc k) curve × (size ≡ (a l).0) × Ahead s count (k + 1) (next + size)
+read s count k next l a e curve size h is = passed s count k next l a e curve size (held_there s next h is)
 
 pub overflow_add-next : goal.overflow_add-next
 overflow_add-next c =
-    let i = inside c in
-    omega (arith, ahead_fits (sheet i) (count i) (k i) (next i) (left i) (ahead i), ahead_near (sheet i) (count i) (k i) (next i) (left i) (ahead i), (read c).1)
+    let s = c.args.sheet.now in
+    let l = c.loop-k in
+    let h = c.in-Curve in
+    let r = read s c.args.count l.k l.next c.loop-k-test.true l.invariant.2 (counted_sound s c.args.count c.requires (omega arith)) h.curve h.size c.held_curve.ensures h.is in
+    omega (
+      arith,
+      ahead_fits s c.args.count l.k l.next c.loop-k-test.true l.invariant.2,
+      ahead_near s c.args.count l.k l.next c.loop-k-test.true l.invariant.2,
+      r.1,
+    )
 
 pub overflow_add-k : goal.overflow_add-k
-overflow_add-k c = omega (arith, left (inside c))
+overflow_add-k c = omega arith
 
 pub judge-requires : goal.judge-requires
-judge-requires c = curve_in_range (sheet (inside c)) (suc (k (inside c))) (curve c) (read c).0
+judge-requires c =
+    let s = c.args.sheet.now in
+    let l = c.loop-k in
+    let h = c.in-Curve in
+    let r = read s c.args.count l.k l.next c.loop-k-test.true l.invariant.2 (counted_sound s c.args.count c.requires (omega arith)) h.curve h.size c.held_curve.ensures h.is in
+    curve_in_range s (suc l.k) h.curve r.0
 
 pub loop-k-smaller : goal.loop-k-smaller
-loop-k-smaller c = omega (arith, left (inside c.before.before))
+loop-k-smaller c = omega arith
 
 pub loop-k-preserved : goal.loop-k-preserved
 loop-k-preserved c =
-    let f = c.before.before in
-    let inv = (inside f).loop-k.invariant in
-    (omega (arith, left (inside f)), curves-next (k (inside f)) inv.1 (read f).0 c.judge.ensures c.with_curve-t.ensures, (read f).2)
+    let s = c.args.sheet.now in
+    let l = c.loop-k in
+    let h = c.in-Curve in
+    let r = read s c.args.count l.k l.next c.loop-k-test.true l.invariant.2 (counted_sound s c.args.count c.requires (omega arith)) h.curve h.size c.held_curve.ensures h.is in
+    (omega arith, curves-next l.k l.invariant.1 r.0 c.judge.ensures c.with_curve-t.ensures, r.2)
 
 pub returns : goal.returns
 returns c =

@@ -3,7 +3,6 @@ use mathlib.Core.Path.{sym, ap}
 use native.Mathlib.Omega.{arith}
 use lib.ListN.{set}
 use lib.Seq.{set_out}
-use borrow.Author.Rules.{rules}
 use Rattle.totals.proofs.counting.mark.Goals as goal
 
 pub returns-then-i-counts : goal.returns-then-i-counts

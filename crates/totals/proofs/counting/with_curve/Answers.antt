@@ -3,7 +3,6 @@ use mathlib.Core.Path.{ap, ◌∙◌}
 use Prim.Native.Nat.{ℕ, ◌+◌}
 use Rattle.totals.specs.Totals.{longer}
 use Rattle.totals.specs.Promise.{bounded, marked}
-use borrow.Author.Rules.{rules}
 use Rattle.totals.proofs.counting.with_curve.Goals as goal
 
 pub returns : goal.returns

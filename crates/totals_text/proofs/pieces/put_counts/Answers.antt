@@ -1,6 +1,5 @@
 -- `pieces::put_counts` meets its contract: a line for each verdict.
 use Rattle.text.proofs.Pieces.{◌then◌}
-use borrow.Author.Rules.{rules}
 use Rattle.totals_text.proofs.pieces.put_counts.Goals as goal
 
 pub returns : goal.returns

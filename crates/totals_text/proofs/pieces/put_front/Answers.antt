@@ -1,6 +1,5 @@
 -- `pieces::put_front` meets its contract: number, blank, name and colon.
 use Rattle.text.proofs.Pieces.{◌then◌}
-use borrow.Author.Rules.{rules}
 use Rattle.totals_text.proofs.pieces.put_front.Goals as goal
 
 pub returns : goal.returns

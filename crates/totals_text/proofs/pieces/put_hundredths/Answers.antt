@@ -1,6 +1,5 @@
 -- `pieces::put_hundredths` meets its contract: the whole part, a point and two digits.
 use Rattle.text.proofs.Pieces.{◌then◌}
-use borrow.Author.Rules.{rules}
 use Rattle.totals_text.proofs.pieces.put_hundredths.Goals as goal
 
 pub returns : goal.returns

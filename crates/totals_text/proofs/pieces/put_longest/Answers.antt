@@ -2,7 +2,6 @@
 use mathlib.Core.Path.{sym, ap}
 use Rattle.text.proofs.Pieces.{◌then◌, writes_same}
 use Rattle.totals_text.specs.Texts.{longest_line}
-use borrow.Author.Rules.{rules}
 use Rattle.totals_text.proofs.pieces.put_longest.Goals as goal
 
 pub returns-in-None : goal.returns-in-None

@@ -1,7 +1,6 @@
 -- `pieces::put_refusals` meets its contract: a line for each number.
 use mathlib.Core.Path.{◌∙◌}
 use Rattle.text.proofs.Pieces.{◌then◌}
-use borrow.Author.Rules.{rules}
 use Rattle.totals_text.proofs.pieces.put_refusals.Goals as goal
 
 pub shape_of-area : goal.shape_of-area
@@ -12,12 +11,12 @@ shape_of-area c =
     let p3 = p4 in
     let p2 = p3 in
     let p1 = p2 in
-    p6.put_count.auto.0
-    ∙ p5.put_count-f.auto.0
-    ∙ p4.put_count-e.auto.0
-    ∙ p3.put_count-d.auto.0
-    ∙ p2.put_count-c.auto.0
-    ∙ p1.put_count-b.auto.0
+    p6.put_count.auto.area
+    ∙ p5.put_count-f.auto.area
+    ∙ p4.put_count-e.auto.area
+    ∙ p3.put_count-d.auto.area
+    ∙ p2.put_count-c.auto.area
+    ∙ p1.put_count-b.auto.area
 
 pub returns : goal.returns
 returns c =

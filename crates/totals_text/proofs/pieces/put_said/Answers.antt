@@ -4,7 +4,6 @@ use Rattle.text.proofs.Pieces.{◌then◌, writes_same}
 use Rattle.sheet.specs.declared.Checked.{Checked}
 use Rattle.sheet.specs.Promise.{answer_of_checked}
 use Rattle.totals_text.specs.Texts.{said}
-use borrow.Author.Rules.{rules}
 use Rattle.totals_text.proofs.pieces.put_said.Goals as goal
 
 pub returns-in-Sheet : goal.returns-in-Sheet
@@ -16,4 +15,4 @@ returns-in-Sheet c =
     then p2.put.ensures)
 
 pub returns-in-Refused : goal.returns-in-Refused
-returns-in-Refused c = let p = c in writes_same (ap (λ (x : Checked). said (answer_of_checked x)) (sym p.in-Refused.is)) p.Put-refused.ensures
+returns-in-Refused c = let p = c in writes_same (ap (λ (x : Checked). said (answer_of_checked x)) (sym p.in-Refused.is)) p.put_refused.ensures

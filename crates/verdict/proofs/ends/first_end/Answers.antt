@@ -1,6 +1,5 @@
 -- `ends::first_end` meets its contract, by the kind of curve.
 use mathlib.Core.Path.{sym, subst}
-use borrow.Author.Rules.{rules}
 use lib.Dec.{lit≤}
 use Rattle.whole.specs.Number.{Tells}
 use Rattle.pair.specs.Pairs.{AllWithin}

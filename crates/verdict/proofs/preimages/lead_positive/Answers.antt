@@ -2,7 +2,6 @@
 use mathlib.Core.Bool.{Bool, true, false}
 use Prim.Native.Nat.{ℕ, zero, suc}
 use native.Mathlib.Omega.{arith}
-use borrow.Author.Rules.{rules}
 use Rattle.whole.specs.Coefficients.{at}
 use Rattle.whole.specs.Number.{FirstPositive, Tells}
 use Rattle.whole.proofs.Flags.{told, untold}

@@ -2,7 +2,6 @@
 use mathlib.Core.Path.{◌≡◌, refl, sym, ap, ◌∙◌, subst}
 use mathlib.Core.List.{List, [], ◌∷◌}
 use mathlib.Core.Logic.{⊎_elim}
-use borrow.Author.Rules.{rules}
 use lib.Dec.{lit≤}
 use lib.IntN.{pos, negsuc, ◌*ℤ◌}
 use Rattle.whole.specs.Number.{Tells, FirstPositive}
@@ -10,7 +9,7 @@ use Rattle.poly.specs.Polynomials.{Same, scaled}
 use Rattle.poly.proofs.Lists.{scaled-same, scaled-scaled}
 use Rattle.poly.proofs.Top.{top_some, top-same, top-scaled, find-top}
 use Rattle.pair.specs.declared.Pair.{Pair}
-use Rattle.pair.specs.Pairs.{pair, pairs, times, negative, norm, one, imaginary}
+use Rattle.pair.specs.Pairs.{pair, pairs, times, one, imaginary}
 use Rattle.pair.proofs.Parts.{wider}
 use Rattle.pair.proofs.Laws.{pairs_ring, pairs_domain, times_one, norm-times, pair-zero?}
 use Rattle.pair.proofs.PairSolver.{the, ◌⊠◌, solve_pairs}

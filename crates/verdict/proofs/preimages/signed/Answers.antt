@@ -1,12 +1,11 @@
 -- `preimages::signed` meets its contract: where w has not the sign of the rule, −w has it.
 use mathlib.Core.Path.{refl, sym, subst}
 use mathlib.Core.Logic.{⊎_elim}
-use borrow.Author.Rules.{rules}
 use lib.IntN.{pos, negsuc}
 use Rattle.whole.specs.Number.{Tells}
 use Rattle.poly.proofs.Lists.{scaled-one}
 use Rattle.poly.proofs.Top.{find-top}
-use Rattle.pair.specs.Pairs.{pair, pairs, one}
+use Rattle.pair.specs.Pairs.{pair, one}
 use Rattle.pair.proofs.Laws.{pairs_ring, pair-zero?}
 use Rattle.root.proofs.Leads.{lead_same}
 use Rattle.verdict.specs.Verdicts.{quadratic, LeadKept}

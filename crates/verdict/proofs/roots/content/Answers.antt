@@ -1,17 +1,15 @@
 -- `roots::content` meets its contract.
-use mathlib.Core.Path.{◌≡◌, sym, subst}
+use mathlib.Core.Path.{◌≡◌, subst}
 use mathlib.Core.List.{List, [], ◌∷◌}
 use Prim.Native.Nat.{ℕ, ◌<◌, ◌≤◌}
 use native.Mathlib.Omega.{arith}
-use borrow.Author.Rules.{rules}
 use lib.Dec.{lit<}
 use lib.IntN.{ℤ, pos}
-use lib.Signed.{◌<ℤ◌}
 use mir.Syntax.{w64}
 use mir.Val.{to_z, of_z}
 use mir.ValLaws.{to_z_pos}
 use Rattle.whole.specs.Coefficients.{Greatest}
-use Rattle.whole.specs.Number.{wholes, Within, norm_size}
+use Rattle.whole.specs.Number.{wholes, norm_size}
 use Rattle.whole.proofs.Bound.{read_back, fits_within}
 use Rattle.whole.proofs.Linear.{linear}
 use Rattle.root.specs.declared.Octic.{Octic}

@@ -1,7 +1,6 @@
 -- `roots::degree` meets its contract: each test that fails lowers the power above which nothing stands.
 use Prim.Native.Nat.{zero, suc}
 use native.Mathlib.Omega.{arith}
-use borrow.Author.Rules.{rules}
 use Rattle.whole.specs.Coefficients.{at}
 use Rattle.whole.proofs.Flags.{told, untold}
 use Rattle.poly.specs.Terms.{Above}

@@ -1,7 +1,6 @@
 -- `roots::norm_polynomial` meets its contract.
 use mathlib.Core.Path.{sym, ap, ap₂, ◌∙◌, subst}
 use mathlib.Core.List.{List}
-use borrow.Author.Rules.{rules}
 use lib.IntN.{ℤ, ◌+ℤ◌}
 use Rattle.whole.specs.Coefficients.{at}
 use Rattle.poly.specs.Polynomials.{square}

@@ -1,5 +1,5 @@
 -- `roots::shared` meets its contract, quotient by quotient.
-use mathlib.Core.Path.{◌≡◌, sym, ap, ap₂, ◌∙◌, subst}
+use mathlib.Core.Path.{◌≡◌, sym, ap₂, ◌∙◌, subst}
 use Prim.Native.Nat.{ℕ}
 use lib.IntN.{ℤ, pos, ◌*ℤ◌}
 use mir.Syntax.{w64}
@@ -59,8 +59,7 @@ pub share-requires-9 : goal.share-requires-9
 share-requires-9 c = shares c.args.n c.args.c c.requires 8
 
 pub returns : goal.returns
-returns c =
-    (
-      octic-shared c.args.c _ c.args.n (answered c.args.n c.args.c c.requires 0 c.share.ensures) (answered c.args.n c.args.c c.requires 1 c.share-2.ensures) (answered c.args.n c.args.c c.requires 2 c.share-3.ensures) (answered c.args.n c.args.c c.requires 3 c.share-4.ensures) (answered c.args.n c.args.c c.requires 4 c.share-5.ensures) (answered c.args.n c.args.c c.requires 5 c.share-6.ensures) (answered c.args.n c.args.c c.requires 6 c.share-7.ensures) (answered c.args.n c.args.c c.requires 7 c.share-8.ensures) (answered c.args.n c.args.c c.requires 8 c.share-9.ensures),
-      octic_each _ (kept c.share.ensures.1) (kept c.share-2.ensures.1) (kept c.share-3.ensures.1) (kept c.share-4.ensures.1) (kept c.share-5.ensures.1) (kept c.share-6.ensures.1) (kept c.share-7.ensures.1) (kept c.share-8.ensures.1) (kept c.share-9.ensures.1),
-    )
+returns c = (
+  octic-shared c.args.c _ c.args.n (answered c.args.n c.args.c c.requires 0 c.share.ensures) (answered c.args.n c.args.c c.requires 1 c.share-2.ensures) (answered c.args.n c.args.c c.requires 2 c.share-3.ensures) (answered c.args.n c.args.c c.requires 3 c.share-4.ensures) (answered c.args.n c.args.c c.requires 4 c.share-5.ensures) (answered c.args.n c.args.c c.requires 5 c.share-6.ensures) (answered c.args.n c.args.c c.requires 6 c.share-7.ensures) (answered c.args.n c.args.c c.requires 7 c.share-8.ensures) (answered c.args.n c.args.c c.requires 8 c.share-9.ensures),
+  octic_each _ (kept c.share.ensures.1) (kept c.share-2.ensures.1) (kept c.share-3.ensures.1) (kept c.share-4.ensures.1) (kept c.share-5.ensures.1) (kept c.share-6.ensures.1) (kept c.share-7.ensures.1) (kept c.share-8.ensures.1) (kept c.share-9.ensures.1),
+)

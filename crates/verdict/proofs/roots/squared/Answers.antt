@@ -1,14 +1,12 @@
 -- `roots::squared` meets its contract: N is c times what a root is looked for of.
-use mathlib.Core.Path.{◌≡◌, refl, sym, ◌∙◌, subst}
+use mathlib.Core.Path.{◌≡◌, sym, ◌∙◌, subst}
 use mathlib.Core.List.{List}
 use mathlib.Core.Logic.{◌≢◌}
 use Prim.Native.Nat.{ℕ, ◌+◌, ◌≤◌}
-use borrow.Author.Rules.{rules}
 use lib.IntN.{ℤ, pos}
-use lib.Signed.{◌<ℤ◌}
 use mir.Syntax.{w64}
 use mir.Val.{to_z, of_z}
-use Rattle.whole.specs.Coefficients.{at, Greatest}
+use Rattle.whole.specs.Coefficients.{Greatest}
 use Rattle.poly.specs.Polynomials.{Same, scaled}
 use Rattle.whole.specs.Number.{wholes}
 use Rattle.whole.proofs.Bound.{read_back}

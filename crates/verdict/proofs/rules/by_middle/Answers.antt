@@ -1,17 +1,17 @@
 -- `rules::by_middle` meets its contract: v has the Bernstein coefficients d0, d1, m, and e is what d0, 2 d1 and m have in common.
-use mathlib.Core.Path.{◌≡◌, sym, ap, ap₂, ◌∙◌, subst}
-use mathlib.Core.List.{List, [], ◌∷◌}
+use mathlib.Core.Path.{◌≡◌, sym, ap, ◌∙◌, subst}
+use mathlib.Core.List.{[], ◌∷◌}
 use Prim.Native.Nat.{zero, suc}
 use lib.Dec.{lit≤}
 use lib.IntN.{pos}
 use Rattle.poly.specs.Polynomials.{Same, scaled}
 use Rattle.whole.specs.Coefficients.{Divides, Greatest}
 use Rattle.pair.specs.declared.Pair.{Pair}
-use Rattle.pair.specs.Pairs.{pairs, plus, minus, times, multiple, PartsWithin, AllWithin}
+use Rattle.pair.specs.Pairs.{pairs, plus, minus, multiple, PartsWithin, AllWithin}
 use Rattle.pair.proofs.Parts.{wider, zero-within, plus-within, minus-within, multiple-within}
 use Rattle.divisor.proofs.Divisors.{greatest_within}
 use Rattle.bernstein.specs.Powers.{power_form}
-use Rattle.verdict.specs.Rules.{QuinticRule, parabola_root}
+use Rattle.verdict.specs.Rules.{parabola_root}
 use Rattle.verdict.specs.Verdicts.{quadratic}
 use Rattle.verdict.proofs.ByRoot.{root-whole}
 use Rattle.verdict.proofs.RulesMet.{quintic-root, greatest_three, quintic_divisor, first_divisor, quintic_preimage}

@@ -1,11 +1,9 @@
 -- `rules::end_generator` meets its contract: D = t² E, and E = κ u² gives D = κ (t u)².
-use mathlib.Core.Path.{◌≡◌, refl, sym, ap, ap₂, ◌∙◌, subst}
+use mathlib.Core.Path.{◌≡◌, refl, subst}
 use mathlib.Core.List.{List, [], ◌∷◌}
 use Prim.Native.Nat.{zero, suc}
-use borrow.Author.Rules.{rules}
 use lib.Dec.{lit≤}
 use lib.IntN.{pos}
-use Rattle.whole.specs.Coefficients.{at}
 use Rattle.poly.specs.Polynomials.{Same}
 use Rattle.whole.proofs.Flags.{told, untold}
 use Rattle.pair.specs.declared.Pair.{Pair}
@@ -14,11 +12,10 @@ use Rattle.pair.proofs.Parts.{wider, multiple-within}
 use Rattle.bernstein.specs.Powers.{power_form}
 use Rattle.verdict.specs.declared.Quadratic.{Quadratic}
 use Rattle.verdict.specs.declared.rules.Generator.{Generator}
-use Rattle.verdict.specs.Rules.{CubicRule}
-use Rattle.verdict.specs.Verdicts.{quadratic, Coprime, NotGenerated}
-use Rattle.verdict.specs.Steps.{Generates, IsLine}
+use Rattle.verdict.specs.Verdicts.{quadratic}
+use Rattle.verdict.specs.Steps.{IsLine}
 use Rattle.verdict.proofs.Known.{generates_same}
-use Rattle.verdict.proofs.RulesMet.{cubic-root, quintic_preimage_end}
+use Rattle.verdict.proofs.RulesMet.{quintic_preimage_end}
 use Rattle.verdict.proofs.Quintics.{quintic_rule_end}
 use Rattle.verdict.proofs.Decided.{cubic-found}
 use Rattle.verdict.proofs.rules.end_generator.Goals as goal

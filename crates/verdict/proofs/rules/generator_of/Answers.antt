@@ -1,7 +1,6 @@
 -- `rules::generator_of` meets its contract, by the kind of curve.
 use mathlib.Core.Path.{sym, subst}
 use mathlib.Core.List.{List}
-use borrow.Author.Rules.{rules}
 use lib.Dec.{lit≤}
 use Rattle.pair.specs.declared.Pair.{Pair}
 use Rattle.pair.specs.Pairs.{AllWithin}

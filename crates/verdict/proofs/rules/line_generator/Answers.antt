@@ -1,25 +1,23 @@
 -- `rules::line_generator` meets its contract, by the rule of three Bernstein coefficients.
-use mathlib.Core.Path.{◌≡◌, refl, sym, ap, ◌∙◌, subst}
+use mathlib.Core.Path.{◌≡◌, refl, sym, ◌∙◌, subst}
 use mathlib.Core.List.{List, [], ◌∷◌}
 use mathlib.Core.Logic.{◌≢◌, ⊎_elim}
-use Prim.Native.Nat.{ℕ, zero, suc}
-use borrow.Author.Rules.{rules}
+use Prim.Native.Nat.{zero, suc}
 use lib.Dec.{lit≤}
 use Rattle.whole.specs.Number.{Tells}
-use Rattle.whole.specs.Coefficients.{at, Divides, Greatest}
+use Rattle.whole.specs.Coefficients.{Divides, Greatest}
 use Rattle.poly.specs.Polynomials.{Same, scaled}
 use Rattle.whole.proofs.Divisor.{divides_none}
 use Rattle.whole.proofs.Flags.{told, untold}
 use Rattle.poly.proofs.Lists.{at_scaled}
 use Rattle.pair.specs.declared.Pair.{Pair}
-use Rattle.pair.specs.Pairs.{pairs, minus, times, one, PartsWithin, AllWithin}
+use Rattle.pair.specs.Pairs.{pairs, minus, one, AllWithin}
 use Rattle.pair.proofs.Parts.{wider, zero-within, minus-within}
 use Rattle.pair.proofs.Laws.{pairs_ring, pairs_domain}
 use Rattle.divisor.proofs.Divisors.{greatest_within}
 use Rattle.bernstein.specs.Powers.{power_form}
-use Rattle.verdict.specs.Rules.{CubicRule, line_root, ByDivisor}
-use Rattle.verdict.specs.Verdicts.{quadratic, Coprime, Generated}
-use Rattle.verdict.specs.Steps.{Shared, Over, Generates}
+use Rattle.verdict.specs.Rules.{CubicRule, line_root}
+use Rattle.verdict.specs.Verdicts.{quadratic}
 use Rattle.verdict.proofs.Known.{generates_same}
 use Rattle.verdict.proofs.ByRoot.{root-whole}
 use Rattle.verdict.proofs.RulesMet.{cubic-root, cubic_divisor, first_divisor, cubic_preimage, cubic_preimage_end}

@@ -1,20 +1,17 @@
 -- `rules::middle_of` meets its contract: m = 3 d2 − x, where d0 x = 2 d1².
-use mathlib.Core.Path.{◌≡◌, sym, ap, ap₂, ◌∙◌, subst}
+use mathlib.Core.Path.{◌≡◌, sym, ap, ◌∙◌, subst}
 use mathlib.Core.List.{[], ◌∷◌}
-use borrow.Author.Rules.{rules}
 use lib.Dec.{lit≤}
 use lib.IntN.{pos}
-use Rattle.whole.specs.Coefficients.{Divides}
 use Rattle.whole.proofs.Flags.{told, untold}
 use Rattle.poly.proofs.Domain.{times_cancel}
 use Rattle.pair.specs.declared.Pair.{Pair}
-use Rattle.pair.specs.Pairs.{pairs, plus, minus, times, multiple, PartsWithin}
-use Rattle.pair.proofs.Parts.{wider, minus-within, multiple-within, times-within}
+use Rattle.pair.specs.Pairs.{plus, minus, times, multiple, PartsWithin}
+use Rattle.pair.proofs.Parts.{wider, multiple-within, times-within}
 use Rattle.pair.proofs.Laws.{pairs_ring, pairs_domain}
 use Rattle.pair.proofs.PairSolver.{the, ◌⊞◌, ◌⊟◌, ◌⊠◌, ◌··◌, solve_pairs}
 use Rattle.divisor.specs.Promise.{IsPairQuotient}
 use Rattle.divisor.proofs.Division.{quotient-within}
-use Rattle.verdict.specs.Rules.{QuinticRule}
 use Rattle.verdict.proofs.Decided.{middle_within}
 use Rattle.verdict.specs.Steps.{middle_size}
 use Rattle.verdict.proofs.rules.middle_of.Goals as goal

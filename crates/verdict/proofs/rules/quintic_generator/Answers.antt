@@ -1,8 +1,7 @@
 -- `rules::quintic_generator` meets its contract, by the quintic rule, or by the rule of three where d0 is 0.
-use mathlib.Core.Path.{◌≡◌, sym, ap, ap₂, ◌∙◌, subst}
-use mathlib.Core.List.{List, [], ◌∷◌}
+use mathlib.Core.Path.{◌≡◌, sym, subst}
+use mathlib.Core.List.{[], ◌∷◌}
 use mathlib.Core.Logic.{◌≢◌}
-use borrow.Author.Rules.{rules}
 use lib.Dec.{lit≤}
 use Rattle.whole.specs.Number.{Tells}
 use Rattle.whole.proofs.Flags.{told, untold}
