@@ -18,6 +18,9 @@ pub const ERASED: u8 = 255;
 // A record's length where its place is erased: two such bytes.
 const ERASED_LENGTH: u64 = 65535;
 
+// How far apart the ends of the range are.
+const SPAN: u64 = 40000;
+
 // What stands at a record's place: the end of the sheet, a fault some bytes on, or a record of a kind.
 #[derive(Clone, Copy)]
 pub enum Step {
@@ -103,7 +106,7 @@ fn all_within(rest: &[u8], words: usize) -> bool
     let mut left = words;
     // No coordinate ends the loop: so the compiler tests four at a time.
     while left > 0 {
-        if (word_at(rest, at) + 20000) % 4294967296 > 40000 {
+        if (word_at(rest, at) + 20000) % 4294967296 > SPAN {
             within = false;
         }
         at += 4;

@@ -10,7 +10,7 @@ use Rattle.record.specs.Numbers.{signed_of}
 use Rattle.record.proofs.Signs.{word-within, word_outside}
 use Rattle.record.proofs.Loops.{within_none, within_fail, within_pass}
 use Rattle.record.proofs.steps.all_within.Goals as goal
-use Rattle.record.proofs.steps.all_within.Goals.{then-word_at-gt40000, else-word_at-gt40000}
+use Rattle.record.proofs.steps.all_within.Goals.{then-word_at-gt-SPAN, else-word_at-gt-SPAN}
 
 pub loop-left-init : goal.loop-left-init
 loop-left-init c = (refl, search rules)
@@ -22,9 +22,9 @@ loop-left-preserved c =
     let seen = c.loop-left in
     let rest = c.args.rest.now in
     let read = ap (λ (n : ℕ). leb (nat_abs (signed_of n)) coordinate_reach) (sym word.0) in (
-      elim c.if-word_at-gt40000.branch [
-        | then-word_at-gt40000 w ↦ within_fail seen.within rest seen.at seen.left more (read ∙ word_outside _ word.1 w.if-word_at-gt40000.true) w.within-is
-        | else-word_at-gt40000 w ↦ within_pass seen.within rest seen.at seen.left more (read ∙ word-within _ word.1 w.if-word_at-gt40000.false) w.within-is
+      elim c.if-word_at-gt-SPAN.branch [
+        | then-word_at-gt-SPAN w ↦ within_fail seen.within rest seen.at seen.left more (read ∙ word_outside _ word.1 w.if-word_at-gt-SPAN.true) w.within-is
+        | else-word_at-gt-SPAN w ↦ within_pass seen.within rest seen.at seen.left more (read ∙ word-within _ word.1 w.if-word_at-gt-SPAN.false) w.within-is
       ]
           ∙ seen.invariant.0,
       omega arith,

@@ -1,5 +1,6 @@
 -- `writes::put_at` meets its contract: the tests, and then the record over a part of its own length.
 use mathlib.Core.Path.{◌≡◌, sym, ap, ◌∙◌}
+use mathlib.Core.Bool.{true}
 use mathlib.Core.List.{List}
 use Prim.Native.Nat.{ℕ, ◌+◌, ◌-◌, ◌≤◌, ◌<◌}
 use native.Mathlib.Omega.{arith}
@@ -9,6 +10,7 @@ use Rattle.record.specs.declared.kinds.Kind.{Kind}
 use Rattle.record.specs.declared.kinds.Row.{Row}
 use Rattle.record.specs.Numbers.{written}
 use Rattle.record.specs.Kinds.{row_of}
+use Rattle.record.specs.Records.{all_within}
 use Rattle.record.proofs.Table.{row-known}
 use Rattle.record.proofs.Putting.{put_back, at_range, at_room, at_done}
 use Rattle.record.proofs.writes.put_at.Goals as goal
@@ -33,7 +35,8 @@ returns-then-not-within c = at_range _ _ _ _ (sym c.numbers_within-within.ensure
 
 pub returns-then-left-size : goal.returns-then-left-size
 returns-then-left-size c =
-    at_room _ _ _ _ (sym c.numbers_within-within.ensures ∙ c.if-not-within.false) (omega (arith, size_is _ c.row_of-size.ensures, c.left_at-left.ensures, c.if-left-size.true))
+    let within : all_within c.args.xs.now ≡ true = cc in
+    at_room _ _ _ _ within (omega (arith, size_is _ c.row_of-size.ensures, c.left_at-left.ensures, c.if-left-size.true))
 
 pub overflow_add-at : goal.overflow_add-at
 overflow_add-at c = omega (arith, room c.args.bytes.now c.args.at c.row_of-size.result.size c.left_at-left.ensures c.if-left-size.false (some c.args.kind c.row_of-size.ensures))
