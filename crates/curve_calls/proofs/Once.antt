@@ -2,7 +2,7 @@
 --   on_source                two calls on the same numbers, which give one pre-image to build from, or none
 --   recognise_once, length_once, inflections_once, offset_once, build_once, joins_once   the calls
 use mathlib.Core.Path.{◌≡◌, refl, ap}
-use mathlib.Core.List.{List, [], ◌∷◌}
+use mathlib.Core.List.{List}
 use native.Mathlib.Omega.{arith}
 use lib.IntN.{ℤ}
 use lib.ListN.{length}

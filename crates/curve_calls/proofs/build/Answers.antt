@@ -1,5 +1,4 @@
 -- `build` meets its contract.
-use borrow.Author.Rules.{rules}
 use mathlib.Core.Path.{refl, subst}
 use mathlib.Core.Logic.{inl, inr}
 use mir.ValLaws.{to_z-of_z}

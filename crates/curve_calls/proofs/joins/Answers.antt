@@ -1,5 +1,4 @@
 -- `joins` meets its contract.
-use borrow.Author.Rules.{rules}
 use mir.ValLaws.{to_z-of_z}
 use Rattle.record.proofs.Signs.{settled}
 use Rattle.curve_calls.proofs.joins.Goals as goal

@@ -1,5 +1,4 @@
 -- `offset` meets its contract.
-use borrow.Author.Rules.{rules}
 use mathlib.Core.Path.{refl, subst}
 use mathlib.Core.List.{List}
 use lib.IntN.{ℤ}

@@ -1,5 +1,4 @@
 -- `recognise` meets its contract.
-use borrow.Author.Rules.{rules}
 use mathlib.Core.Path.{refl}
 use Rattle.hand.proofs.Areas.{hands_same}
 use Rattle.hand.proofs.Handing.{wrong-count, right_count, handed}

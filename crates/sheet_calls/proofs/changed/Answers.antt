@@ -1,5 +1,4 @@
 -- `changed` meets its contract.
-use borrow.Author.Rules.{rules}
 use mathlib.Core.Path.{sym, ap, ◌∙◌}
 use Rattle.sheet.specs.declared.Change.{Change}
 use Rattle.record.proofs.Signs.{settled}

@@ -1,5 +1,4 @@
 -- `check` meets its contract.
-use borrow.Author.Rules.{rules}
 use mathlib.Core.Path.{ap, ◌∙◌, subst}
 use native.Mathlib.Omega.{arith}
 use mir.Syntax.{w64}

@@ -1,5 +1,4 @@
 -- `read` meets its contract.
-use borrow.Author.Rules.{rules}
 use mathlib.Core.Path.{ap, ◌∙◌, subst}
 use Rattle.refusal.specs.Answers.{with_given}
 use Rattle.refusal.proofs.Answers.{with_twice}

@@ -1,5 +1,4 @@
 -- `numbers::hand_built` meets its contract.
-use borrow.Author.Rules.{rules}
 use mathlib.Core.Path.{sym, ap}
 use Rattle.refusal.specs.Answers.{with_given}
 use Rattle.build.specs.declared.BuildAnswer.{BuildAnswer}

@@ -1,7 +1,6 @@
 -- `numbers::offset_count` meets its contract.
 use borrow.Author.Rules.{rules}
 use mathlib.Core.Path.{sym, ap, ◌∙◌}
-use native.Mathlib.Omega.{arith}
 use mir.Syntax.{w64}
 use mir.ValLaws.{to_z_pos}
 use Rattle.refusal.specs.declared.Fault.{Fault}

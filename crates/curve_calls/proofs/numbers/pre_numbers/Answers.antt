@@ -1,5 +1,4 @@
 -- `numbers::pre_numbers` meets its contract.
-use borrow.Author.Rules.{rules}
 use mathlib.Core.Path.{refl, ap}
 use mathlib.Core.List.{List, ◌∷◌}
 use lib.IntN.{ℤ, pos}
