@@ -1,18 +1,20 @@
 // What a call returned, and what a lent number area holds.
 use crate::words::{say, say_number, say_signed};
+use std::io;
+use std::io::Write;
 use whole::size;
 
 // The refusal's number.
-pub(crate) fn say_refused(returned: i64) {
-    say(b"refused ");
-    say_number(size(returned) % 32);
+pub(crate) fn say_refused<W: Write>(to: &mut W, returned: i64) -> io::Result<()> {
+    say(to, b"refused ")?;
+    say_number(to, size(returned) % 32)
 }
 
 // The refusal's number, and the byte of the sheet.
-pub(crate) fn say_fault(returned: i64) {
-    say_refused(returned);
-    say(b" at ");
-    say_number(size(returned) / 32);
+pub(crate) fn say_fault<W: Write>(to: &mut W, returned: i64) -> io::Result<()> {
+    say_refused(to, returned)?;
+    say(to, b" at ")?;
+    say_number(to, size(returned) / 32)
 }
 
 // How many zeros stand from a place on.
@@ -27,19 +29,20 @@ fn zeros(area: &[i64], from: usize) -> usize {
     at - from
 }
 
-fn say_numbers(area: &[i64], count: usize) {
+fn say_numbers<W: Write>(to: &mut W, area: &[i64], count: usize) -> io::Result<()> {
     let mut i: usize = 0;
     while i < area.len() && i < count {
-        say(b" ");
-        say_signed(area[i]);
+        say(to, b" ")?;
+        say_signed(to, area[i])?;
         i += 1;
     }
+    Ok(())
 }
 
 // The answer's numbers, and how many zeros there are behind them.
-pub(crate) fn say_area(area: &[i64], count: usize) {
-    say_numbers(area, count);
-    say(b" and ");
-    say_number(zeros(area, count) as u64);
-    say(b" zeros");
+pub(crate) fn say_area<W: Write>(to: &mut W, area: &[i64], count: usize) -> io::Result<()> {
+    say_numbers(to, area, count)?;
+    say(to, b" and ")?;
+    say_number(to, zeros(area, count) as u64)?;
+    say(to, b" zeros")
 }

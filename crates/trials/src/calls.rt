@@ -3,6 +3,8 @@ ghost use Rattle.std.specs.Prelude.{◌≡◌, ◌≤◌, length};
 
 use crate::runs::put_runs;
 use crate::{curves, sheets};
+use std::io;
+use std::io::Write;
 use whole::size;
 
 fn is_mission(x: i64) -> bool {
@@ -25,21 +27,21 @@ pub(crate) fn suits(call: usize, n: &[i64], count: usize) -> bool
     }
 }
 
-fn on_points(call: usize, points: &[i64]) {
+fn on_points<W: Write>(to: &mut W, call: usize, points: &[i64]) -> io::Result<()> {
     match call {
-        1 => curves::recognise(points),
-        2 => curves::length(points),
-        _ => curves::inflections(points),
+        1 => curves::recognise(to, points),
+        2 => curves::length(to, points),
+        _ => curves::inflections(to, points),
     }
 }
 
-fn on_curve(call: usize, n: &[i64], count: usize)
+fn on_curve<W: Write>(to: &mut W, call: usize, n: &[i64], count: usize) -> io::Result<()>
     requires { length n.now ≡ 64 }
 {
     if count == 8 {
-        on_points(call, &n[0..8]);
+        on_points(to, call, &n[0..8])
     } else {
-        on_points(call, &n[0..12]);
+        on_points(to, call, &n[0..12])
     }
 }
 
@@ -69,31 +71,31 @@ fn asked(n: &[i64], count: usize) -> i64
 }
 
 // Two legs and a travel, or a curve and a distance.
-fn in_area(n: &[i64], count: usize, area: &mut [i64])
+fn in_area<W: Write>(to: &mut W, n: &[i64], count: usize, area: &mut [i64]) -> io::Result<()>
     requires { length n.now ≡ 64 }
 {
     match count {
-        6 | 7 => curves::joins(n, area),
-        9 | 10 => curves::offset(&n[0..8], n[8], area),
-        _ => curves::offset(&n[0..12], n[12], area),
+        6 | 7 => curves::joins(to, n, area),
+        9 | 10 => curves::offset(to, &n[0..8], n[8], area),
+        _ => curves::offset(to, &n[0..12], n[12], area),
     }
 }
 
-fn lend(n: &[i64], count: usize)
+fn lend<W: Write>(to: &mut W, n: &[i64], count: usize) -> io::Result<()>
     requires { length n.now ≡ 64 }
 {
     let mut space = [7i64; 100];
     let lent = room(asked(n, count));
-    in_area(n, count, &mut space[..lent]);
+    in_area(to, n, count, &mut space[..lent])
 }
 
-fn build(n: &[i64], count: usize)
+fn build<W: Write>(to: &mut W, n: &[i64], count: usize) -> io::Result<()>
     requires { length n.now ≡ 64 }
 {
     if count == 6 {
-        curves::build(n[0], n[1], &n[2..6]);
+        curves::build(to, n[0], n[1], &n[2..6])
     } else {
-        curves::build(n[0], n[1], &n[2..8]);
+        curves::build(to, n[0], n[1], &n[2..8])
     }
 }
 
@@ -112,21 +114,27 @@ pub(crate) fn runs_from(call: usize, n: &[i64]) -> usize
 }
 
 // Behind the numbers of a call there are zeros, and a run of no bytes is nothing.
-fn on_sheet(call: usize, n: &[i64], area: &mut [u8])
+fn on_sheet<W: Write>(to: &mut W, call: usize, n: &[i64], area: &mut [u8]) -> io::Result<()>
     requires { length n.now ≡ 64 }
 {
     let from = runs_from(call, n);
     let end = put_runs(area, &n[from..]);
-    sheets::ask(call, &n[0..from], &mut area[..end]);
+    sheets::ask(to, call, &n[0..from], &mut area[..end])
 }
 
-pub(crate) fn answer(call: usize, n: &[i64], count: usize, area: &mut [u8])
+pub(crate) fn answer<W: Write>(
+    to: &mut W,
+    call: usize,
+    n: &[i64],
+    count: usize,
+    area: &mut [u8],
+) -> io::Result<()>
     requires { length n.now ≡ 64 }
 {
     match call {
-        1 | 2 | 3 => on_curve(call, n, count),
-        4 | 6 => lend(n, count),
-        5 => build(n, count),
-        _ => on_sheet(call, n, area),
+        1 | 2 | 3 => on_curve(to, call, n, count),
+        4 | 6 => lend(to, n, count),
+        5 => build(to, n, count),
+        _ => on_sheet(to, call, n, area),
     }
 }

@@ -17,24 +17,31 @@ mod words;
 ghost use Rattle.std.specs.Prelude.{◌<◌, length};
 ghost use Rattle.record.specs.Records.{longest};
 
-use libc::STDIN_FILENO;
 use record::LONGEST;
+use std::io;
+use std::io::{Read, Write};
+use streams::read_full;
 use words::say;
 
 // A text that fills its area may go on behind it. The other area is what sheets are made in: one byte too many is told from a sheet.
-fn answer_input(text: &mut [u8], area: &mut [u8])
+fn answer_input<R: Read, W: Write>(
+    input: &mut R,
+    output: &mut W,
+    text: &mut [u8],
+    area: &mut [u8],
+) -> io::Result<()>
     requires { longest < length area.old }
 {
-    let read = io::read_full(STDIN_FILENO, text);
+    let read = read_full(input, text)?;
     if read == text.len() {
-        say(b"error: the text has more than 65,535 bytes\n");
+        say(output, b"error: the text has more than 65,535 bytes\n")
     } else {
-        lines::all(&text[..read], area);
+        lines::all(output, &text[..read], area)
     }
 }
 
-fn main() {
-    let mut text = io::large_buffer();
+fn main(rt: HostRuntime) -> io::Result<()> {
+    let mut text = [0u8; 65536];
     let mut area = [0u8; LONGEST + 1];
-    answer_input(&mut text, &mut area);
+    answer_input(&mut rt.stdin(), &mut rt.stdout(), &mut text, &mut area)
 }

@@ -1,20 +1,23 @@
 // The table of calls: a line of usage for each. A call's number is that of its line.
 use crate::places::row_of;
 use crate::words::say;
+use std::io;
+use std::io::Write;
 
-fn look_up_in(table: &[u8], name: &[u8], tell: bool) -> usize {
+fn look_up_in<W: Write>(to: &mut W, table: &[u8], name: &[u8], tell: bool) -> io::Result<usize> {
     let row = row_of(table, name);
     if tell {
-        let from = row.from;
-        let to = row.to;
-        say(&table[from..to]);
+        let start = row.from;
+        let end = row.to;
+        say(to, &table[start..end])?;
     }
-    row.number
+    Ok(row.number)
 }
 
 // The number of the call of this name, or 0. Its line, or every line, is written where that is asked for.
-pub(crate) fn look_up(name: &[u8], tell: bool) -> usize {
+pub(crate) fn look_up<W: Write>(to: &mut W, name: &[u8], tell: bool) -> io::Result<usize> {
     look_up_in(
+        to,
         b"recognise CURVE: 4 or 6 points, each as x y
 length CURVE: 4 or 6 points, each as x y
 inflections CURVE: 4 or 6 points, each as x y

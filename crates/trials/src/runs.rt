@@ -3,6 +3,8 @@ ghost use Rattle.std.specs.Prelude.{◌≡◌, ◌+◌, ◌≤◌, ◌<◌, leng
 ghost use Rattle.io.specs.Counts.{IsPrefixLen};
 
 use crate::words::say_form;
+use std::io;
+use std::io::Write;
 use whole::size;
 
 // One run from a place on, as far as there is room; where it ends.
@@ -76,11 +78,12 @@ fn wide(b: u8) -> i64 {
     b as i64
 }
 
-pub(crate) fn say_runs(bytes: &[u8]) {
+pub(crate) fn say_runs<W: Write>(to: &mut W, bytes: &[u8]) -> io::Result<()> {
     let mut at: usize = 0;
     while at < bytes.len() {
         let many = run(bytes, at);
-        say_form(b" (#,#)", &[wide(bytes[at]), many as i64]);
+        say_form(to, b" (#,#)", &[wide(bytes[at]), many as i64])?;
         at += many;
     }
+    Ok(())
 }

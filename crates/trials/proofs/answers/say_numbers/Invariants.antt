@@ -5,7 +5,7 @@ use lib.ListN.{length}
 use Rattle.trials.proofs.answers.say_numbers.Given as goal
 
 abbrev pub invariant-loop-i : goal.invariant-loop-i
-invariant-loop-i l = i ≤ length l.area
+invariant-loop-i g l = l.i ≤ length l.area
 
 abbrev pub decreases-loop-i : goal.decreases-loop-i
-decreases-loop-i l = length l.area - i
+decreases-loop-i g l = length l.area - l.i

@@ -6,7 +6,7 @@ use borrow.Author.Rules.{rules}
 use Rattle.trials.proofs.lines.all.Given as goal
 
 abbrev pub invariant-loop-at : goal.invariant-loop-at
-invariant-loop-at l = (length l.area ≡ length l.initial.area) × (l.number ≤ l.at + 1)
+invariant-loop-at g l = (l.number ≤ l.at + 1)
 
 abbrev pub decreases-loop-at : goal.decreases-loop-at
-decreases-loop-at l = length l.text - l.at
+decreases-loop-at g l = length l.text - l.at

@@ -6,7 +6,7 @@ use borrow.Author.Rules.{rules}
 use Rattle.trials.proofs.lines.ask_parts.Given as goal
 
 abbrev pub invariant-loop-at : goal.invariant-loop-at
-invariant-loop-at l = (length l.area ≡ length l.initial.area) × (length l.state ≡ 13)
+invariant-loop-at g l = (length l.state ≡ 13)
 
 abbrev pub decreases-loop-at : goal.decreases-loop-at
-decreases-loop-at l = length l.text + 1 - l.at
+decreases-loop-at g l = length l.text + 1 - l.at

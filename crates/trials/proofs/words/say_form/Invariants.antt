@@ -5,7 +5,7 @@ use borrow.Author.Rules.{rules}
 use Rattle.trials.proofs.words.say_form.Given as goal
 
 abbrev pub invariant-loop-at : goal.invariant-loop-at
-invariant-loop-at l = l.at ≤ length l.form
+invariant-loop-at g l = l.at ≤ length l.form
 
 abbrev pub decreases-loop-at : goal.decreases-loop-at
-decreases-loop-at l = length l.form - l.at
+decreases-loop-at g l = length l.form - l.at
