@@ -28,7 +28,7 @@ use Rattle.curve.specs.Curves.{points_of}
 use Rattle.record.specs.Kinds.{numbers_of}
 use Rattle.hand.specs.Promise.{WrongCount}
 use Rattle.reading.specs.declared.places.Sought.TheVariants as sought
-use Rattle.reading.specs.Places.{Gap, FirstPlace}
+use Rattle.reading.specs.Places.{FirstPlace}
 use Rattle.reading.specs.Texts.{Until, Words, Numbers}
 use Rattle.reading.specs.Texts as texts
 use Rattle.reading.proofs.Texts.{until_there, gaps_passed, word_taken, words_exist, number_fits}

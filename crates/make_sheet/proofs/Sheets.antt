@@ -23,7 +23,6 @@ use Rattle.record.specs.declared.steps.Step.{Step}
 use Rattle.record.specs.declared.steps.Step.TheVariants as record_step
 use Rattle.record.proofs.Shown.{ends_erased, erased_ends}
 use Rattle.record.proofs.Headers.{header-mission}
-use Rattle.sheet.specs.declared.Mission.{Mission}
 use Rattle.sheet.specs.declared.Mission.TheVariants as mission
 use Rattle.sheet.specs.declared.walks.Ending.{Ending}
 use Rattle.sheet.specs.declared.walks.Ending.TheVariants.{Sound}

@@ -1,7 +1,7 @@
 -- `make` meets its contract: the lines that were passed made the area. It ends, for each line begins behind the one before.
 use mathlib.Core.Path.{◌≡◌, ap, ◌∙◌, subst}
 use mathlib.Core.List.{List}
-use Prim.Native.Nat.{ℕ, ◌-◌}
+use Prim.Native.Nat.{ℕ}
 use native.Mathlib.Omega.{arith}
 use lib.ListN.{length, replicate}
 use borrow.Author.Tests.{le-ltb}
@@ -12,8 +12,7 @@ use Rattle.sheet.specs.declared.Change.{Change}
 use Rattle.sheet.specs.Promise.{erasing, Erases}
 use Rattle.make_sheet.specs.declared.making.Step.TheVariants as step
 use Rattle.make_sheet.specs.Making.{Takes}
-use Rattle.make_sheet.proofs.Progress.{Progress, progress_none, progress_one, progress_all, progress_stops}
-use borrow.Author.Rules.{rules}
+use Rattle.make_sheet.proofs.Progress.{progress_none, progress_one, progress_all, progress_stops}
 use Rattle.make_sheet.proofs.make.Goals as goal
 
 -- an area of a sheet's full length is erased

@@ -1,5 +1,4 @@
 -- `yard_offset` meets its contract.
-use borrow.Author.Rules.{rules}
 use mir.Syntax.{w64}
 use mir.ValLaws.{to_z-of_z}
 use Rattle.yard.proofs.yard_offset.Goals as goal

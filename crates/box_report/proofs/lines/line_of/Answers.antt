@@ -1,5 +1,5 @@
 -- `lines::line_of` meets its contract: there is room for the line.
-use Rattle.std.proofs.Common.{◌≡◌, ap, arith, length}
+use Rattle.std.proofs.Common.{ap, arith, length}
 use Rattle.text.proofs.Held.{written_is, room-enough}
 use Rattle.sheet.specs.Promise.{answer_of_checked}
 use Rattle.totals_text.specs.Texts.{sheet_line}

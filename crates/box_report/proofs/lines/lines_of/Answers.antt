@@ -1,5 +1,5 @@
 -- `lines::lines_of` meets its contract: there is room for the lines.
-use Rattle.std.proofs.Common.{◌≡◌, ap, arith, length}
+use Rattle.std.proofs.Common.{ap, arith, length}
 use Rattle.text.proofs.Held.{written_is, room-enough}
 use Rattle.totals_text.specs.Texts.{totals_text}
 use Rattle.box_report.proofs.lines.lines_of.Goals as goal

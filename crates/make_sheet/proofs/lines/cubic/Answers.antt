@@ -1,6 +1,5 @@
 -- `lines::cubic` meets its contract.
 use Rattle.make_sheet.proofs.Sentences.{cubic-behind}
-use borrow.Author.Rules.{rules}
 use Rattle.make_sheet.proofs.lines.cubic.Goals as goal
 
 pub returns : goal.returns

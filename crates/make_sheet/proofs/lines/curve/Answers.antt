@@ -7,7 +7,6 @@ use Rattle.hand.specs.Promise.{IsGiven}
 use Rattle.reading.specs.Texts.{Numbers}
 use Rattle.make_sheet.specs.Sayings.{NumbersIn, NoCurve}
 use Rattle.make_sheet.proofs.Sentences.{wrong-curve, no_room}
-use borrow.Author.Rules.{rules}
 use Rattle.make_sheet.proofs.lines.curve.Goals as goal
 
 pub returns-in-Wrong : goal.returns-in-Wrong

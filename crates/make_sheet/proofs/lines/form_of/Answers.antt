@@ -3,7 +3,6 @@ use mathlib.Core.Path.{◌≡◌, subst}
 use mathlib.Core.List.{[], ◌∷◌}
 use Rattle.whole.specs.Number.{Tells}
 use Rattle.make_sheet.specs.Sayings.{mission_word, erased_word}
-use borrow.Author.Rules.{rules}
 use Rattle.make_sheet.proofs.lines.form_of.Goals as goal
 
 pub returns-then-same : goal.returns-then-same

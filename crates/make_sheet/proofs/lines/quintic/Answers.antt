@@ -1,6 +1,5 @@
 -- `lines::quintic` meets its contract.
 use Rattle.make_sheet.proofs.Sentences.{quintic-behind}
-use borrow.Author.Rules.{rules}
 use Rattle.make_sheet.proofs.lines.quintic.Goals as goal
 
 pub returns : goal.returns

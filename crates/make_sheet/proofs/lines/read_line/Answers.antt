@@ -2,7 +2,6 @@
 use mathlib.Core.Path.{sym}
 use lib.Seq.{length-take-le}
 use Rattle.make_sheet.proofs.Sentences.{line_says}
-use borrow.Author.Rules.{rules}
 use Rattle.make_sheet.proofs.lines.read_line.Goals as goal
 
 pub slice_bounds-read_words-end : goal.slice_bounds-read_words-end

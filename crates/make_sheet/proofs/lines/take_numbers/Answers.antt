@@ -1,13 +1,11 @@
 -- `lines::take_numbers` meets its contract: the words that were passed are the numbers in the area. It ends, for a word has a byte.
 use mathlib.Core.Path.{sym, subst}
-use mathlib.Core.List.{List}
-use Prim.Native.Nat.{ℕ, ◌+◌, ◌-◌, ◌≤◌}
+use Prim.Native.Nat.{◌+◌, ◌-◌}
 use native.Mathlib.Omega.{arith}
 use lib.IntN.{ℤ}
 use lib.ListN.{length, take, drop, set}
 use mir.Syntax.{w64}
 use mir.ValLaws.{to_z-of_z}
-use Rattle.reading.specs.declared.numbers.Number.{Number}
 use Rattle.reading.specs.declared.numbers.Number.TheVariants as number
 use Rattle.reading.specs.Numbers.{IsNumber}
 use Rattle.reading.proofs.Texts.{word-long, number_fits}

@@ -5,7 +5,6 @@ use Rattle.make_sheet.specs.declared.making.Step.TheVariants as step
 use Rattle.make_sheet.specs.declared.lines.Why.TheVariants as why
 use Rattle.make_sheet.specs.Making.{Appended, Adds}
 use Rattle.make_sheet.proofs.Stages.{unless_ended}
-use borrow.Author.Rules.{rules}
 use Rattle.make_sheet.proofs.making.add.Goals as goal
 
 pub returns-in-Ended : goal.returns-in-Ended

@@ -4,7 +4,6 @@ use Rattle.make_sheet.specs.declared.making.Stage.{Stage}
 use Rattle.make_sheet.specs.declared.making.Step.TheVariants as step
 use Rattle.make_sheet.specs.declared.lines.Why.TheVariants as why
 use Rattle.make_sheet.specs.Making.{Begins}
-use borrow.Author.Rules.{rules}
 use Rattle.make_sheet.proofs.making.begin.Goals as goal
 
 pub returns-in-Blank : goal.returns-in-Blank

@@ -1,7 +1,6 @@
 -- `making::changed` meets its contract.
 use mathlib.Core.Path.{sym, ap}
 use Rattle.make_sheet.specs.Making.{afterwards}
-use borrow.Author.Rules.{rules}
 use Rattle.make_sheet.proofs.making.changed.Goals as goal
 
 pub returns-in-Done : goal.returns-in-Done

@@ -8,7 +8,6 @@ use Rattle.make_sheet.specs.declared.making.Stage.TheVariants as stage
 use Rattle.make_sheet.specs.declared.making.Step.TheVariants as step
 use Rattle.make_sheet.specs.Making.{ending_at, ending}
 use Rattle.make_sheet.proofs.Stages.{unless_ended, ends_long, ends_short}
-use borrow.Author.Rules.{rules}
 use Rattle.make_sheet.proofs.making.end.Goals as goal
 
 pub returns-in-Ended : goal.returns-in-Ended

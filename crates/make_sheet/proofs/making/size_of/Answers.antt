@@ -3,7 +3,6 @@ use mathlib.Core.Path.{◌≡◌}
 use Rattle.make_sheet.specs.declared.making.Stage.{Stage}
 use Rattle.make_sheet.specs.Making.{size_in}
 use Rattle.make_sheet.proofs.Stages.{unless_ended}
-use borrow.Author.Rules.{rules}
 use Rattle.make_sheet.proofs.making.size_of.Goals as goal
 
 pub returns : goal.returns

@@ -3,7 +3,6 @@ use mathlib.Core.Path.{refl, sym, subst}
 use Rattle.make_sheet.specs.declared.lines.Line.{Line}
 use Rattle.make_sheet.specs.declared.making.Step.TheVariants as step
 use Rattle.make_sheet.specs.Making.{Takes}
-use borrow.Author.Rules.{rules}
 use Rattle.make_sheet.proofs.making.take_line.Goals as goal
 
 pub returns-in-Nothing : goal.returns-in-Nothing
