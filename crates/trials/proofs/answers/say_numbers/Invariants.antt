@@ -1,6 +1,5 @@
 -- What the loops of `answers::say_numbers` keep.
 use Prim.Native.Nat.{◌-◌, ◌≤◌}
-use borrow.Author.Rules.{rules}
 use lib.ListN.{length}
 use Rattle.trials.proofs.answers.say_numbers.Given as goal
 

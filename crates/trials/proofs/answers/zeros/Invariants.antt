@@ -1,6 +1,5 @@
 -- What the loops of `answers::zeros` keep.
 use Prim.Native.Nat.{◌-◌, ◌≤◌}
-use borrow.Author.Rules.{rules}
 use lib.ListN.{length}
 use Rattle.trials.proofs.answers.zeros.Given as goal
 

@@ -1,8 +1,6 @@
 -- What the loops of `lines::all` keep.
-use mathlib.Core.Path.{◌≡◌}
 use Prim.Native.Nat.{◌+◌, ◌-◌, ◌≤◌}
 use lib.ListN.{length}
-use borrow.Author.Rules.{rules}
 use Rattle.trials.proofs.lines.all.Given as goal
 
 abbrev pub invariant-loop-at : goal.invariant-loop-at

@@ -1,9 +1,7 @@
 -- What the loops of `numbers::arguments` keep.
-use mathlib.Core.Path.{◌≡◌, ap, ◌∙◌}
-use mathlib.Core.Logic.{⊎_elim}
+use mathlib.Core.Path.{◌≡◌}
 use Prim.Native.Nat.{◌-◌, ◌≤◌}
-use lib.ListN.{length, length-set}
-use borrow.Author.Rules.{rules}
+use lib.ListN.{length}
 use Rattle.trials.proofs.numbers.arguments.Given as goal
 
 abbrev pub invariant-loop-at : goal.invariant-loop-at

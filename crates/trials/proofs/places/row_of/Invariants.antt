@@ -1,7 +1,6 @@
 -- What the loops of `places::row_of` keep.
 use Prim.Native.Nat.{◌+◌, ◌-◌, ◌≤◌}
 use lib.ListN.{length}
-use borrow.Author.Rules.{rules}
 use Rattle.trials.proofs.places.row_of.Given as goal
 
 abbrev pub invariant-loop-from : goal.invariant-loop-from

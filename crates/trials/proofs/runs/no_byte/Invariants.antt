@@ -1,7 +1,6 @@
 -- What the loops of `runs::no_byte` keep.
 use Prim.Native.Nat.{◌-◌}
 use lib.ListN.{length}
-use borrow.Author.Rules.{rules}
 use Rattle.trials.proofs.runs.no_byte.Given as goal
 
 abbrev pub invariant-loop-i : goal.invariant-loop-i

@@ -1,10 +1,6 @@
 -- `runs::put_runs` ends inside the area.
-use mathlib.Core.Path.{◌≡◌}
 use native.Mathlib.Omega.{arith}
 use Rattle.trials.proofs.Prefixes.{counted}
-use Prim.Native.Nat.{◌-◌, ◌≤◌}
-use lib.ListN.{length}
-use borrow.Author.Rules.{rules}
 use Rattle.trials.proofs.runs.put_runs.Goals as goal
 
 pub returns : goal.returns

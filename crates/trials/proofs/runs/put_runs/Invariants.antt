@@ -1,10 +1,7 @@
 -- What the loops of `runs::put_runs` keep.
 use mathlib.Core.Path.{◌≡◌}
-use native.Mathlib.Omega.{arith}
-use Rattle.trials.proofs.Prefixes.{counted}
 use Prim.Native.Nat.{◌-◌, ◌≤◌}
 use lib.ListN.{length}
-use borrow.Author.Rules.{rules}
 use Rattle.trials.proofs.runs.put_runs.Given as goal
 
 abbrev pub invariant-loop-i : goal.invariant-loop-i

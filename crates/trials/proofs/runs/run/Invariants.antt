@@ -1,5 +1,4 @@
 -- What the loops of `runs::run` keep.
-use borrow.Author.Rules.{rules}
 use Prim.Native.Nat.{◌≤◌, ◌-◌, ◌<◌}
 use lib.ListN.{length}
 use Rattle.trials.proofs.runs.run.Given as goal

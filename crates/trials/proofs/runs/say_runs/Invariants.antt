@@ -1,7 +1,6 @@
 -- What the loops of `runs::say_runs` keep.
 use Prim.Native.Nat.{◌-◌, ◌≤◌}
 use lib.ListN.{length}
-use borrow.Author.Rules.{rules}
 use Rattle.trials.proofs.runs.say_runs.Given as goal
 
 abbrev pub invariant-loop-at : goal.invariant-loop-at

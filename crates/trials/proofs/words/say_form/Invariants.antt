@@ -1,7 +1,6 @@
 -- What the loops of `words::say_form` keep.
 use Prim.Native.Nat.{◌-◌, ◌≤◌}
 use lib.ListN.{length}
-use borrow.Author.Rules.{rules}
 use Rattle.trials.proofs.words.say_form.Given as goal
 
 abbrev pub invariant-loop-at : goal.invariant-loop-at
