@@ -7,14 +7,13 @@ use Rattle.curve_calls.proofs.numbers.pre_numbers.Goals as goal
 
 pub returns : goal.returns
 returns c =
-    let k = c in
-    let s = k.struct_told-1.given in
+    let s = c.struct_told-1.given in
     let q = c.struct_told-2-1.given in
     let g = c.struct_told-3-1.given in
     let g0 = c.struct_told-4-1.given in
     let g1 = c.struct_told-5-1.given in
     let g2 = c.struct_told-6-1.given in
-    let p = k.args.p in
+    let p = c.args.p in
     let a = p.square.q in
     ap (λ (xs : List ℤ). pos 3 ∷ xs)
     (kept p.square.c s.0.1
