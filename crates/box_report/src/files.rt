@@ -37,7 +37,7 @@ pub(crate) fn read_file(rt: &HostRuntime, name: &[u8], area: &mut [u8]) -> io::R
     match read_all(rt, name, area) {
         Ok(n) => Ok(Got::Bytes(n)),
         Err(e) => {
-            say_error(&mut rt.stderr(), rt.alloc(), name, &e)?;
+            say_error(&mut rt.stderr(), name, &e)?;
             Ok(Got::None)
         }
     }

@@ -63,7 +63,7 @@ fn take_file(
 {
     let Ok(length) = rt.arg(i, name) else {
         let e = io::Error::new(ErrorKind::InvalidFilename, "File name too long");
-        say_error(&mut rt.stderr(), rt.alloc(), name, &e)?;
+        say_error(&mut rt.stderr(), name, &e)?;
         return Ok(Step {
             totals: t,
             full: false,

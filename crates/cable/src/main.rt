@@ -11,7 +11,6 @@ use lines::line_of;
 use parts::{Told, ask, end, feed, start};
 use record::LONGEST;
 use states::State;
-use std::alloc::Global;
 use std::io;
 use std::io::{Read, Write};
 use streams::say_error;
@@ -43,7 +42,6 @@ fn take_part(state: State, part: &[u8]) -> State
 fn take_parts<R: Read, W: Write>(
     input: &mut R,
     errors: &mut W,
-    alloc: Global,
     area: &mut [u8],
 ) -> io::Result<Arrived>
     ensures { IfOk result (λ arrived. Arriving arrived.state × Stopped arrived.state arrived.stop) }
@@ -53,7 +51,7 @@ fn take_parts<R: Read, W: Write>(
         let n = match input.read(area) {
             Ok(n) => n,
             Err(e) => {
-                say_error(errors, alloc, b"standard input", &e)?;
+                say_error(errors, b"standard input", &e)?;
                 return Ok(Arrived {
                     state,
                     stop: Stop::Failed,
@@ -92,7 +90,7 @@ fn line_in(state: State, text: &mut [u8]) -> usize
 fn check_input(rt: &HostRuntime, area: &mut [u8], text: &mut [u8]) -> io::Result<()>
     requires { 24 ≤ length text.old }
 {
-    let arrived = take_parts(&mut rt.stdin(), &mut rt.stderr(), rt.alloc(), area)?;
+    let arrived = take_parts(&mut rt.stdin(), &mut rt.stderr(), area)?;
     let stop = arrived.stop;
     if let Stop::Failed = stop {
         return Ok(());

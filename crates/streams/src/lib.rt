@@ -4,7 +4,6 @@
 ghost use Rattle.std.specs.Prelude.{◌≡◌, ◌<◌, ◌≤◌, length, take, IfOk};
 ghost use Rattle.std.specs.Io.KnownBytes.{Consumes, IsAtEnd};
 
-use std::alloc::{AllocError, Global};
 use std::io;
 use std::io::{Read, Write};
 
@@ -25,25 +24,25 @@ pub fn read_full<R: Read>(input: &mut R, area: &mut [u8]) -> io::Result<usize>
     Ok(count)
 }
 
-// The reason of an error, without the system's number of it.
-fn reason(alloc: Global, e: &io::Error) -> Result<String, AllocError> {
-    let text = format!(in alloc; "{e}")?;
-    match text.as_str().split_once(" (os error ") {
-        Some((words, _)) => String::from_str(alloc, words),
-        None => Ok(text),
+// Where the reason of an error ends: before the system's number of it, or before the zeros behind its text.
+fn reason_end(text: &[u8]) -> usize
+    ensures { result ≤ length text.now }
+{
+    for i in 0..text.len() {
+        if text[i] == 0 || text[i..].starts_with(b" (os error ") {
+            return i;
+        }
     }
+    text.len()
 }
 
-// Says of a named thing why it cannot be read.
-pub fn say_error<W: Write>(
-    to: &mut W,
-    alloc: Global,
-    name: &[u8],
-    e: &io::Error,
-) -> io::Result<()> {
-    let words = reason(alloc, e)?;
+// Says of a named thing why it cannot be read. The system's reasons have at most 256 bytes.
+pub fn say_error<W: Write>(to: &mut W, name: &[u8], e: &io::Error) -> io::Result<()> {
+    let mut text = [0u8; 320];
+    let mut rest: &mut [u8] = &mut text;
+    write!(rest, "{e}")?;
     to.write_all(name)?;
     to.write_all(b": ")?;
-    to.write_all(words.as_bytes())?;
+    to.write_all(&text[..reason_end(&text)])?;
     to.write_all(b"\n")
 }
