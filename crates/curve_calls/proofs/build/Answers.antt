@@ -30,5 +30,4 @@ returns-in-Quintic c =
 
 pub returns-in-WrongCount : goal.returns-in-WrongCount
 returns-in-WrongCount c =
-    let k = c in
-    inl (subst (IsSource _) k.in-WrongCount.is k.source_in.ensures, hands_same refl c.refused.type_inv c.refused.ensures)
+    inl (subst (IsSource _) c.in-WrongCount.is c.source_in.ensures, hands_same refl c.refused.type_inv c.refused.ensures)

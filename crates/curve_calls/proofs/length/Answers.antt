@@ -6,13 +6,11 @@ use Rattle.curve_calls.proofs.length.Goals as goal
 
 pub returns-in_default : goal.returns-in_default
 returns-in_default c =
-    let k = c in
-    wrong-count k.curve_in.ensures k.in_default.is
+    wrong-count c.curve_in.ensures c.in_default.is
     (hands_same refl c.refused.type_inv c.refused.ensures)
 
 pub returns : goal.returns
 returns c =
-    let k = c in
     let r = c.length in
-    right_count k.curve_in.ensures k.in-Curve.curve k.in-Curve.is
+    right_count c.curve_in.ensures c.in-Curve.curve c.in-Curve.is
     (handed r.result r.ensures refl c.hand_length.type_inv c.hand_length.ensures)

@@ -20,14 +20,11 @@ stored_distance h f c a {before} {after} o = subst (λ (z : ℤ). OffsetBy c z b
 
 pub returns-in_default : goal.returns-in_default
 returns-in_default c =
-    let k = c in
-    wrong-count k.curve_in.ensures k.in_default.is
+    wrong-count c.curve_in.ensures c.in_default.is
     (hands_same refl c.refused.type_inv c.refused.ensures)
 
 pub returns : goal.returns
 returns c =
-    let k = c in
-    let s = k in
     let r = c.offset in
-    right_count k.curve_in.ensures k.in-Curve.curve k.in-Curve.is
-    (r.result, stored_distance s.args.h s.ranges.h k.in-Curve.curve r.result r.ensures, settled c.offset_count.type_inv c.offset_count.ensures)
+    right_count c.curve_in.ensures c.in-Curve.curve c.in-Curve.is
+    (r.result, stored_distance c.args.h c.ranges.h c.in-Curve.curve r.result r.ensures, settled c.offset_count.type_inv c.offset_count.ensures)

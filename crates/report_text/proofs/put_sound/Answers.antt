@@ -13,18 +13,13 @@ use Rattle.report_text.proofs.put_sound.Goals as goal
 
 pub put_lines-requires : goal.put_lines-requires
 put_lines-requires c =
-    let first = c in
-    let start = first in
-    sym (with_twice told_of (λ (told : Mission × ℕ). told.1) (outcome start.args.sheet.now)) ∙ ap (with_given (λ (told : Mission × ℕ). told.1)) start.requires
+    sym (with_twice told_of (λ (told : Mission × ℕ). told.1) (outcome c.args.sheet.now)) ∙ ap (with_given (λ (told : Mission × ℕ). told.1)) c.requires
 
 pub returns : goal.returns
 returns c =
-    let lines = c in
-    let first = lines in
-    let start = first in
-    let w = lines.put_lines.ensures in
+    let w = c.put_lines.ensures in
     record {
-      text = first_line start.args.mission start.args.count ++ w.lines;
+      text = first_line c.args.mission c.args.count ++ w.lines;
       of_sheet = (w.lines, w.of_curves, refl);
-      writes = first.put_first_line-line.ensures then w.writes;
+      writes = c.put_first_line-line.ensures then w.writes;
     }

@@ -1,9 +1,9 @@
 -- `locate` meets its contract: the walk remembers where the curve stands, and the mission is asked first.
 use mathlib.Core.Path.{◌≡◌, sym, ap, ◌∙◌}
-use mathlib.Core.Bool.{Bool}
+use mathlib.Core.Bool.{Bool, false}
 use Prim.Native.Nat.{ℕ}
 use Rattle.sheet.specs.declared.Mission.{Mission}
-use Rattle.sheet.specs.Survey.{is_other}
+use Rattle.sheet.specs.Survey.{survey, mission_of, is_other}
 use Rattle.sheet.proofs.Told.{forward, other_located, none_located, one_located, located_faulty}
 use Rattle.sheet.proofs.locate.Goals as goal
 
@@ -20,7 +20,8 @@ returns-then-other c =
 
 pub returns-then-place-to : goal.returns-then-place-to
 returns-then-place-to c =
-    none_located c.walk-w.ensures _ c.in-Sound.is (other_is c.args.mission c.mission_of.ensures c.is_other-other.ensures c.if-other.false) c.if-place-to.true c.nowhere-then-place-to.ensures
+    let own : is_other c.args.mission (mission_of (survey c.args.sheet.now).records) ≡ false = cc in
+    none_located c.walk-w.ensures _ c.in-Sound.is own c.if-place-to.true c.nowhere-then-place-to.ensures
 
 pub overflow_sub-length : goal.overflow_sub-length
 overflow_sub-length c = forward c.walk-w.ensures

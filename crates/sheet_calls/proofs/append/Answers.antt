@@ -9,13 +9,10 @@ use Rattle.sheet_calls.proofs.append.Goals as goal
 
 pub returns-in_default : goal.returns-in_default
 returns-in_default c =
-    let k = c in
-    wrong-count k.curve_in.ensures k.in_default.is
+    wrong-count c.curve_in.ensures c.in_default.is
     (settled c.coded.type_inv (c.coded.ensures ∙ ap (λ (f : Fault). code_of (refused f)) c.nowhere.ensures), refl)
 
 pub returns : goal.returns
 returns c =
-    let a = c in
-    let k = a in
-    right_count k.curve_in.ensures k.in-Curve.curve k.in-Curve.is
-    (a.append.result, a.append.ensures, settled c.changed.type_inv c.changed.ensures)
+    right_count c.curve_in.ensures c.in-Curve.curve c.in-Curve.is
+    (c.append.result, c.append.ensures, settled c.changed.type_inv c.changed.ensures)

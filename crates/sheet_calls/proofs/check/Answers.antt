@@ -23,6 +23,4 @@ returns-in-Sheet c =
 
 pub returns-in-Refused : goal.returns-in-Refused
 returns-in-Refused c =
-    let k = c in
-    let m = k in
-    settled c.coded.type_inv (c.coded.ensures ∙ ap code_of (count_checked _ (checked.Refused _) (subst (Checks m.args.s.now) k.in-Refused.is m.check.ensures)))
+    settled c.coded.type_inv (c.coded.ensures ∙ ap code_of (count_checked _ (checked.Refused _) (subst (Checks c.args.s.now) c.in-Refused.is c.check.ensures)))

@@ -45,9 +45,7 @@ returns-in-At c =
 
 pub returns-in-Refused : goal.returns-in-Refused
 returns-in-Refused c =
-    let k = c in
-    let m = k in
-    let s = m.args in
-    let is = subst (Locates s.s.now s.mission s.number) k.in-Refused.is m.locate.ensures in
+    let s = c.args in
+    let is = subst (Locates s.s.now s.mission s.number) c.in-Refused.is c.locate.ensures in
     hands_same (ap (with_given (map pos)) is ∙ with_twice place_of (map pos) (chosen s.mission s.number s.s.now))
     c.faulted.type_inv c.faulted.ensures

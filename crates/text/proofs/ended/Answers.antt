@@ -8,10 +8,8 @@ use Rattle.text.proofs.ended.Goals.{in-At+else-end-area, in_default}
 
 pub returns-then-end-area : goal.returns-then-end-area
 returns-then-end-area c =
-    let tested = c in
-    let found = tested in
-    let area = found.args.area.now in
-    ends_written area found.in-At.end found.in-At.is c.clear.ensures
+    let area = c.args.area.now in
+    ends_written area c.in-At.end c.in-At.is c.clear.ensures
 
 -- no text is held up to this place, or it did not fit
 pub returns : goal.returns

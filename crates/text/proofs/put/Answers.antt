@@ -19,20 +19,16 @@ loop-i-init c = (omega arith, omega arith, refl, sym (append-nil _))
 
 pub returns-then-at-area : goal.returns-then-at-area
 returns-then-at-area c =
-    let turn = c in
-    let known = turn in
-    let s = known.args in
-    let l = turn.loop-i in
-    subst (λ (p : Place). Writes s.area.now p s.text.now l.area Full) (sym known.in-At.is)
+    let s = c.args in
+    let l = c.loop-i in
+    subst (λ (p : Place). Writes s.area.now p s.text.now l.area Full) (sym c.in-At.is)
     (copied_short s.area.now s.text.now l.area _ l.at l.i l.invariant.0 l.invariant.2 (omega arith) c.loop-i-test.true)
 
 pub loop-i-preserved : goal.loop-i-preserved
 loop-i-preserved c =
-    let turn = c in
-    let known = turn in
-    let s = known.args in
-    let l = turn.loop-i in
-    let start = known.in-At.start in (
+    let s = c.args in
+    let l = c.loop-i in
+    let start = c.in-At.start in (
       omega arith,
       omega arith,
       length-set l.area l.at _ ∙ l.invariant.2,

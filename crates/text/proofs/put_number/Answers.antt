@@ -8,11 +8,9 @@ use Rattle.text.proofs.put_number.Goals as goal
 
 pub returns : goal.returns
 returns c =
-    let put = c in
-    let made = put in
-    let d = made.decimal-count in
-    let s = made.args in
+    let d = c.decimal-count in
+    let s = c.args in
     subst
-    (λ (x : List ℕ). Writes s.area.now s.place x put.put.new.area put.put.result)
+    (λ (x : List ℕ). Writes s.area.now s.place x c.put.new.area c.put.result)
     (d.ensures.digits ∙ decimal-is _ _ d.ensures.len)
-    put.put.ensures
+    c.put.ensures

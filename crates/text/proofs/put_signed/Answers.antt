@@ -9,11 +9,6 @@ use Rattle.text.proofs.put_signed.Goals as goal
 
 pub returns : goal.returns
 returns c =
-    let number = c in
-    let sized = number in
-    let signed = sized in
-    let labelled = signed in
-    let start = labelled in
-    let kept = to_z-of_z w64 start.args.x start.ranges.x in
-    labelled.put-minus.ensures
-    then (writes_same (ap sign kept) signed.put_sign-digits.ensures then writes_same (ap decimal (sized.size.ensures ∙ ap nat_abs kept)) number.put_number.ensures)
+    let kept = to_z-of_z w64 c.args.x c.ranges.x in
+    c.put-minus.ensures
+    then (writes_same (ap sign kept) c.put_sign-digits.ensures then writes_same (ap decimal (c.size.ensures ∙ ap nat_abs kept)) c.put_number.ensures)

@@ -10,9 +10,7 @@ count_curves-counted-requires c = sym (c.curves_of.ensures ∙ ap curves_of c.ch
 
 pub returns : goal.returns
 returns c =
-    let w = c in
-    let check = w in
-    let s = check.args in
-    takes s.t w.count_curves-counted.result c.with_answer-totals.result s.sheet.now check.check-answer.result check.check-answer.ensures
-    (subst (λ (n : ℕ). CountsCurves s.t s.sheet.now n w.count_curves-counted.result) w.curves_of.ensures w.count_curves-counted.ensures)
+    let s = c.args in
+    takes s.t c.count_curves-counted.result c.with_answer-totals.result s.sheet.now c.check-answer.result c.check-answer.ensures
+    (subst (λ (n : ℕ). CountsCurves s.t s.sheet.now n c.count_curves-counted.result) c.curves_of.ensures c.count_curves-counted.ensures)
     c.with_answer-totals.ensures

@@ -7,6 +7,5 @@ use Rattle.totals.proofs.with_answer.Goals as goal
 
 pub returns-in-Refused : goal.returns-in-Refused
 returns-in-Refused c =
-    let found = c in
-    let t = found.args.t in
-    c.with_refused.ensures ∙ sym (ap (λ (x : Checked). with_answer t (answer_of_checked x)) found.in-Refused.is)
+    let t = c.args.t in
+    c.with_refused.ensures ∙ sym (ap (λ (x : Checked). with_answer t (answer_of_checked x)) c.in-Refused.is)

@@ -11,13 +11,12 @@ overflow_sub-number c = omega (arith, c.number.ensures, number_positive c.args.f
 
 pub returns : goal.returns
 returns c =
-    let mark = c in
-    let start = mark.args in
+    let start = c.args in
     let t = start.t in
     λ i. record {
       sheets = t.sheets;
       verdicts = t.verdicts;
-      refused = (mark.mark.ensures ∙ ap (λ (n : ℕ). marked t.refused (n - 1)) mark.number.ensures) i;
+      refused = (c.mark.ensures ∙ ap (λ (n : ℕ). marked t.refused (n - 1)) c.number.ensures) i;
       sum = t.sum;
       longest = t.longest;
     }

@@ -6,7 +6,4 @@ use Rattle.totals_text.proofs.write_line.Goals as goal
 
 pub returns : goal.returns
 returns c =
-    let end = c in
-    let said = end in
-    let front = said in
-    text_in _ refl (said.put_said-end.auto.area ∙ front.put_front-front.auto.area) (front.put_front-front.ensures then said.put_said-end.ensures) end.ended.ensures
+    text_in _ refl (c.put_said-end.auto.area ∙ c.put_front-front.auto.area) (c.put_front-front.ensures then c.put_said-end.ensures) c.ended.ensures

@@ -5,6 +5,4 @@ use Rattle.totals_text.proofs.write_totals.Goals as goal
 
 pub returns : goal.returns
 returns c =
-    let end = c in
-    let put = end in
-    text_in _ refl put.put_totals-end.auto.area put.put_totals-end.ensures end.ended.ensures
+    text_in _ refl c.put_totals-end.auto.area c.put_totals-end.ensures c.ended.ensures

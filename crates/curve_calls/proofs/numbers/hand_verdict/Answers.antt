@@ -23,13 +23,11 @@ returns-in-No c = hands_same (asked-same c.in-No.is) c.hand-in-No.type_inv c.han
 
 pub returns-in-Ph : goal.returns-in-Ph
 returns-in-Ph c =
-    let k = c in
-    hands_same (ap given k.ph_numbers-xs.ensures ∙ asked-same k.in-Ph.is) c.hand-in-Ph.type_inv c.hand-in-Ph.ensures
+    hands_same (ap given c.ph_numbers-xs.ensures ∙ asked-same c.in-Ph.is) c.hand-in-Ph.type_inv c.hand-in-Ph.ensures
 
 pub returns-in-Pre : goal.returns-in-Pre
 returns-in-Pre c =
-    let k = c in
-    hands_same (ap given k.pre_numbers-xs.ensures ∙ asked-same k.in-Pre.is) c.hand-in-Pre.type_inv c.hand-in-Pre.ensures
+    hands_same (ap given c.pre_numbers-xs.ensures ∙ asked-same c.in-Pre.is) c.hand-in-Pre.type_inv c.hand-in-Pre.ensures
 
 pub returns-in-Refused : goal.returns-in-Refused
 returns-in-Refused c = hands_same (asked-same c.in-Refused.is) c.refused.type_inv c.refused.ensures

@@ -17,6 +17,5 @@ returns-in-Listed c =
 
 pub returns-in-Refused : goal.returns-in-Refused
 returns-in-Refused c =
-    let k = c in
     settled c.coded.type_inv
-    (c.coded.ensures ∙ ap (λ (f : Fault). code_of (refused f)) k.nowhere.ensures ∙ sym (ap (λ (a : JoinAnswer). code_of (answer_of_joins a)) k.in-Refused.is))
+    (c.coded.ensures ∙ ap (λ (f : Fault). code_of (refused f)) c.nowhere.ensures ∙ sym (ap (λ (a : JoinAnswer). code_of (answer_of_joins a)) c.in-Refused.is))

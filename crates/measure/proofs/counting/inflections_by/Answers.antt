@@ -5,4 +5,4 @@ use Rattle.measure.proofs.Sizes.{turning_moderate}
 use Rattle.measure.proofs.counting.inflections_by.Goals as goal
 
 pub count-count-requires : goal.count-count-requires
-count-count-requires c = let s = c in subst Moderate (sym c.turning-turning.ensures) (turning_moderate s.args.w s.requires)
+count-count-requires c = subst Moderate (sym c.turning-turning.ensures) (turning_moderate c.args.w c.requires)

@@ -21,13 +21,13 @@ small : {a b : Pair} → PartsWithin 2000 a → PartsWithin 2000 b → PartsWith
 small h k = (wider (lit≤ tt) h, wider (lit≤ tt) k)
 
 pub cross-x01-requires : goal.cross-x01-requires
-cross-x01-requires c = let s = c in small (s.requires 0) (s.requires 1)
+cross-x01-requires c = small (c.requires 0) (c.requires 1)
 
 pub cross-x02-requires : goal.cross-x02-requires
-cross-x02-requires c = let s = c in small (s.requires 0) (s.requires 2)
+cross-x02-requires c = small (c.requires 0) (c.requires 2)
 
 pub cross-x12-requires : goal.cross-x12-requires
-cross-x12-requires c = let s = c in small (s.requires 1) (s.requires 2)
+cross-x12-requires c = small (c.requires 1) (c.requires 2)
 
 module _ (c : goal.After-cross-x12) where
   abbrev s : at.Start tie.the-claims reads.Pre reads.Post

@@ -21,25 +21,20 @@ overflow_sub-digit-in-loop-at c = let l = c in omega (arith, l.requires.1 l.loop
 
 pub returns-then-n-digit : goal.returns-then-n-digit
 returns-then-n-digit c =
-    let l = c in
-    let s = l in
-    let d = s.args.digits.now in
-    let next = drop-cons d l.loop-at.at 0 c.loop-at-test.true in
-    (s.requires, omega (arith, l.loop-at.invariant.1, ap (value_from l.loop-at.n) next, value_grows (l.loop-at.n * 10 + (get_or d l.loop-at.at 0 - 48)) (drop (suc l.loop-at.at) d), s.requires.1 l.loop-at.at c.loop-at-test.true))
+    let d = c.args.digits.now in
+    let next = drop-cons d c.loop-at.at 0 c.loop-at-test.true in
+    (c.requires, omega (arith, c.loop-at.invariant.1, ap (value_from c.loop-at.n) next, value_grows (c.loop-at.n * 10 + (get_or d c.loop-at.at 0 - 48)) (drop (suc c.loop-at.at) d), c.requires.1 c.loop-at.at c.loop-at-test.true))
 
 pub overflow_add-n : goal.overflow_add-n
 overflow_add-n c = let l = c in omega (arith, l.requires.1 l.loop-at.at c.loop-at-test.true)
 
 pub loop-at-preserved : goal.loop-at-preserved
 loop-at-preserved c =
-    let l = c in
-    let s = l in
-    let d = s.args.digits.now in
-    (search rules, l.loop-at.invariant.1 ∙ ap (value_from l.loop-at.n) (drop-cons d l.loop-at.at 0 c.loop-at-test.true) ∙ ap (λ (i : ℕ). value_from (l.loop-at.n * 10 + (get_or d l.loop-at.at 0 - 48)) (drop i d)) (sym (add-one l.loop-at.at)), omega (arith, s.requires.1 l.loop-at.at c.loop-at-test.true))
+    let d = c.args.digits.now in
+    (search rules, c.loop-at.invariant.1 ∙ ap (value_from c.loop-at.n) (drop-cons d c.loop-at.at 0 c.loop-at-test.true) ∙ ap (λ (i : ℕ). value_from (c.loop-at.n * 10 + (get_or d c.loop-at.at 0 - 48)) (drop i d)) (sym (add-one c.loop-at.at)), omega (arith, c.requires.1 c.loop-at.at c.loop-at-test.true))
 
 pub returns : goal.returns
 returns c =
-    let l = c in
-    let d = l.args.digits.now in
-    let end : l.loop-at.at ≡ length d = omega arith in
-    (l.requires, sym (l.loop-at.invariant.1 ∙ ap (value_from l.loop-at.n) (ap (λ (i : ℕ). drop i d) end ∙ drop-length d)), l.loop-at.invariant.2)
+    let d = c.args.digits.now in
+    let end : c.loop-at.at ≡ length d = omega arith in
+    (c.requires, sym (c.loop-at.invariant.1 ∙ ap (value_from c.loop-at.n) (ap (λ (i : ℕ). drop i d) end ∙ drop-length d)), c.loop-at.invariant.2)

@@ -13,18 +13,16 @@ loop-at-init c = (search rules, search rules, λ i l f. absurd (omega arith))
 
 pub returns-then-is_sought : goal.returns-then-is_sought
 returns-then-is_sought c =
-    let l = c in
-    let s = l.args in
-    let at = l.loop-at.at in
-    let inv = l.loop-at.invariant in
+    let s = c.args in
+    let at = c.loop-at.at in
+    let inv = c.loop-at.invariant in
     record { behind = inv.0; within = inv.1; passed = inv.2; there = λ _. subst (Tells (IsSought s.sought (get_or s.text.now at 0))) c.if-is_sought.true c.is_sought.ensures }
 
 pub loop-at-preserved : goal.loop-at-preserved
 loop-at-preserved c =
-    let l = c in
-    let s = l.args in
-    let at = l.loop-at.at in
-    let inv = l.loop-at.invariant in
+    let s = c.args in
+    let at = c.loop-at.at in
+    let inv = c.loop-at.invariant in
     (search rules, search rules, below_more _ _ inv.2 (λ _. subst (Tells (IsSought s.sought (get_or s.text.now at 0))) c.if-is_sought.false c.is_sought.ensures))
 
 pub returns : goal.returns

@@ -4,7 +4,4 @@ use Rattle.report_text.proofs.lines.put_first_line.Goals as goal
 
 pub returns : goal.returns
 returns c =
-    let end = c in
-    let first = end in
-    let mission = first in
-    mission.put_mission-sheet.ensures then first.put_labelled-line.ensures then end.put.ensures
+    c.put_mission-sheet.ensures then c.put_labelled-line.ensures then c.put.ensures

@@ -7,10 +7,5 @@ use Rattle.report_text.proofs.lines.put_kind.Goals as goal
 
 pub returns : goal.returns
 returns c =
-    let blank = c in
-    let name = blank in
-    let row_there = name in
-    let front = row_there in
-    let row = front in
-    let is = ap (λ (r : Row). r.name) (row.row_of-row.ensures ∙ ap row_of row.kind_of.ensures) in
-    front.put-name.ensures then writes_same is name.put-blank.ensures then blank.put.ensures
+    let is = ap (λ (r : Row). r.name) (c.row_of-row.ensures ∙ ap row_of c.kind_of.ensures) in
+    c.put-name.ensures then writes_same is c.put-blank.ensures then c.put.ensures

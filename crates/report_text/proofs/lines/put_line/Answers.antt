@@ -4,19 +4,13 @@ use Rattle.report_text.proofs.lines.put_line.Goals as goal
 
 pub put_verdict-end-requires : goal.put_verdict-end-requires
 put_verdict-end-requires c =
-    let kind = c in
-    let number = kind in
-    number.requires
+    c.requires
 
 pub returns : goal.returns
 returns c =
-    let end = c in
-    let judged = end in
-    let kind = judged in
-    let number = kind in
-    let v = judged.put_verdict-end.ensures in
+    let v = c.put_verdict-end.ensures in
     record {
       verdict = v.verdict;
       recognised = v.recognised;
-      writes = number.put_number-kind.ensures then kind.put_kind-verdict.ensures then v.writes then end.put.ensures;
+      writes = c.put_number-kind.ensures then c.put_kind-verdict.ensures then v.writes then c.put.ensures;
     }

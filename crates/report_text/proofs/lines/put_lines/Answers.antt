@@ -23,12 +23,11 @@ use Rattle.report_text.proofs.lines.put_lines.Goals as goal
 
 pub loop-k-init : goal.loop-k-init
 loop-k-init c =
-    let s = c in
     let size : c.row_of-next.result.size ≡ (row_of Header).size = ap (λ (r : Row). r.size) c.row_of-next.ensures in (
       omega arith,
       refl,
       lines_none _ _ _,
-      subst (Ahead s.args.sheet.now s.args.count 0) (sym size) (first_stands s.args.sheet.now s.args.count s.requires),
+      subst (Ahead c.args.sheet.now c.args.count 0) (sym size) (first_stands c.args.sheet.now c.args.count c.requires),
     )
 
 pub slice_bounds-held_curve-count : goal.slice_bounds-held_curve-count

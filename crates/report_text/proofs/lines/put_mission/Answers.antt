@@ -6,10 +6,8 @@ use Rattle.report_text.proofs.lines.put_mission.Goals as goal
 
 pub returns-in-None : goal.returns-in-None
 returns-in-None c =
-    let put = c in
-    writes_same (sym (ap mission_text put.in-None.is)) put.put.ensures
+    writes_same (sym (ap mission_text c.in-None.is)) c.put.ensures
 
 pub returns-in-Number : goal.returns-in-Number
 returns-in-Number c =
-    let put = c in
-    writes_same (sym (ap mission_text put.in-Number.is)) put.put_labelled.ensures
+    writes_same (sym (ap mission_text c.in-Number.is)) c.put_labelled.ensures

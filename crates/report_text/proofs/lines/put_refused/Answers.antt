@@ -8,10 +8,6 @@ use Rattle.report_text.proofs.lines.put_refused.Goals as goal
 
 pub returns : goal.returns
 returns c =
-    let end = c in
-    let place = end in
-    let between = place in
-    let number = between in
-    writes_same (ap (λ (n : ℕ). bytes "refused " ++ decimal n) number.number.ensures) number.put_labelled-at.ensures
-    then place.put_labelled-line.ensures
-    then end.put.ensures
+    writes_same (ap (λ (n : ℕ). bytes "refused " ++ decimal n) c.number.ensures) c.put_labelled-at.ensures
+    then c.put_labelled-line.ensures
+    then c.put.ensures

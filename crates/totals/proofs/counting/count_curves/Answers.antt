@@ -20,12 +20,11 @@ use Rattle.totals.proofs.counting.count_curves.Goals as goal
 
 pub loop-k-init : goal.loop-k-init
 loop-k-init c =
-    let s = c in
-    let sheet = s.args.sheet.now in
-    let count = s.args.count in (
+    let sheet = c.args.sheet.now in
+    let count = c.args.count in (
       omega arith,
       curves-none _ _,
-      subst (λ (r : Row). Ahead sheet count 0 r.size) (sym c.row_of-next.ensures) (first_ahead sheet count s.requires),
+      subst (λ (r : Row). Ahead sheet count 0 r.size) (sym c.row_of-next.ensures) (first_ahead sheet count c.requires),
     )
 
 pub slice_bounds-held_curve-count : goal.slice_bounds-held_curve-count

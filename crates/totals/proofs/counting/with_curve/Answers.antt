@@ -7,13 +7,11 @@ use Rattle.totals.proofs.counting.with_curve.Goals as goal
 
 pub returns : goal.returns
 returns c =
-    let plus = c in
-    let mark = plus in
-    let t = mark.args.t in
+    let t = c.args.t in
     λ i. record {
       sheets = t.sheets;
-      verdicts = (mark.mark.ensures ∙ ap (marked t.verdicts) mark.verdict_of.ensures) i;
+      verdicts = (c.mark.ensures ∙ ap (marked t.verdicts) c.verdict_of.ensures) i;
       refused = t.refused;
-      sum = (plus.plus-sum.ensures ∙ ap (λ (n : ℕ). bounded (t.sum + n)) plus.hundredths_of.ensures) i;
+      sum = (c.plus-sum.ensures ∙ ap (λ (n : ℕ). bounded (t.sum + n)) c.hundredths_of.ensures) i;
       longest = (c.longer.ensures ∙ ap (longer t.longest) c.alone.ensures) i;
     }

@@ -9,12 +9,8 @@ returns-in-None c = let p = c in writes_same (ap longest_line (sym p.in-None.is)
 
 pub returns-in-Curve : goal.returns-in-Curve
 returns-in-Curve c =
-    let p4 = c in
-    let p3 = p4 in
-    let p2 = p3 in
-    let p1 = p2 in
-    writes_same (ap longest_line (sym p1.in-Curve.is))
-    (p1.put-length.ensures
-    then p2.put_hundredths-sheet.ensures
-    then p3.put_labelled-curve.ensures
-    then p4.put_count.ensures)
+    writes_same (ap longest_line (sym c.in-Curve.is))
+    (c.put-length.ensures
+    then c.put_hundredths-sheet.ensures
+    then c.put_labelled-curve.ensures
+    then c.put_count.ensures)

@@ -8,11 +8,9 @@ use Rattle.totals_text.proofs.pieces.put_said.Goals as goal
 
 pub returns-in-Sheet : goal.returns-in-Sheet
 returns-in-Sheet c =
-    let p2 = c in
-    let p1 = p2 in
-    writes_same (ap (λ (x : Checked). said (answer_of_checked x)) (sym p1.in-Sheet.is))
-    (p1.put_number-end.ensures
-    then p2.put.ensures)
+    writes_same (ap (λ (x : Checked). said (answer_of_checked x)) (sym c.in-Sheet.is))
+    (c.put_number-end.ensures
+    then c.put.ensures)
 
 pub returns-in-Refused : goal.returns-in-Refused
 returns-in-Refused c = let p = c in writes_same (ap (λ (x : Checked). said (answer_of_checked x)) (sym p.in-Refused.is)) p.put_refused.ensures

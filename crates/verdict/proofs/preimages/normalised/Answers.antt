@@ -20,18 +20,17 @@ use Rattle.verdict.proofs.Turned.{imaginary_some, turned-all}
 use Rattle.verdict.proofs.preimages.normalised.Goals as goal
 
 pub signed-v-requires : goal.signed-v-requires
-signed-v-requires c = let s = c in (s.requires.2, s.requires.3)
+signed-v-requires c = (c.requires.2, c.requires.3)
 
 pub returns-then-first_positive : goal.returns-then-first_positive
 returns-then-first_positive c =
-    let s = c in
     let t = c.signed-v.ensures in (
       record {
         unit = t.unit;
         is_unit = t.is_unit;
-        kept = ap (times s.args.k) t.square ∙ times_one s.args.k;
+        kept = ap (times c.args.k) t.square ∙ times_one c.args.k;
         turned = t.turned;
-        factor = subst (Tells (FirstPositive s.args.k.re s.args.k.im)) c.if-first_positive.true c.first_positive.ensures;
+        factor = subst (Tells (FirstPositive c.args.k.re c.args.k.im)) c.if-first_positive.true c.first_positive.ensures;
         lead = t.lead;
       },
       refl,
@@ -50,9 +49,8 @@ turned_moves w v e n z =
 
 pub signed-v-requires-2 : goal.signed-v-requires-2
 signed-v-requires-2 c =
-    let s = c in
     let e = c.turned_quadratic.ensures in
-    (turned-all (quadratic s.args.w) (quadratic c.turned_quadratic.result) e s.requires.2, turned_moves (quadratic s.args.w) (quadratic c.turned_quadratic.result) e s.requires.3)
+    (turned-all (quadratic c.args.w) (quadratic c.turned_quadratic.result) e c.requires.2, turned_moves (quadratic c.args.w) (quadratic c.turned_quadratic.result) e c.requires.3)
 
 -- (u i)² is −1 where u² is 1
 turned-square : (u : Pair) → times u u ≡ one → times (times u imaginary) (times u imaginary) ≡ pair (negsuc 0) (pos 0)
@@ -62,18 +60,16 @@ turned-square u e =
 
 pub returns : goal.returns
 returns c =
-    let v = c in
-    let s = v in
-    let w = quadratic s.args.w in
+    let w = quadratic c.args.w in
     let t = c.signed-v-2.ensures in
-    let no = subst (Tells (FirstPositive s.args.k.re s.args.k.im)) v.if-first_positive.false v.first_positive.ensures in
-    let opposite = v.negative-n.ensures in (
+    let no = subst (Tells (FirstPositive c.args.k.re c.args.k.im)) c.if-first_positive.false c.first_positive.ensures in
+    let opposite = c.negative-n.ensures in (
       record {
         unit = times t.unit imaginary;
         is_unit = norm-times t.unit imaginary ∙ ap (λ x. x *ℤ pos 1) t.is_unit;
-        kept = ap (times v.negative-n.result) (turned-square t.unit t.square) ∙ ap (λ a. times a (pair (negsuc 0) (pos 0))) opposite ∙ opposite-opposite s.args.k;
-        turned = λ k. t.turned k ∙ scaled-same pairs_ring t.unit (quadratic v.turned_quadratic.result) (scaled pairs imaginary w) v.turned_quadratic.ensures k ∙ scaled-scaled pairs_ring t.unit imaginary w k;
-        factor = subst (λ (a : Pair). FirstPositive a.re a.im) (sym opposite) (⊎_elim (λ h. absurd (no h)) (λ h. h) (first_found s.args.k s.requires.1));
+        kept = ap (times c.negative-n.result) (turned-square t.unit t.square) ∙ ap (λ a. times a (pair (negsuc 0) (pos 0))) opposite ∙ opposite-opposite c.args.k;
+        turned = λ k. t.turned k ∙ scaled-same pairs_ring t.unit (quadratic c.turned_quadratic.result) (scaled pairs imaginary w) c.turned_quadratic.ensures k ∙ scaled-scaled pairs_ring t.unit imaginary w k;
+        factor = subst (λ (a : Pair). FirstPositive a.re a.im) (sym opposite) (⊎_elim (λ h. absurd (no h)) (λ h. h) (first_found c.args.k c.requires.1));
         lead = t.lead;
       },
       refl,

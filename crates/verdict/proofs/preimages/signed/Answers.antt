@@ -28,23 +28,20 @@ turned_quadratic-requires c = c.requires.0
 
 pub turned_quadratic-requires-2 : goal.turned_quadratic-requires-2
 turned_quadratic-requires-2 c =
-    let s = c in
-    turned-all (quadratic s.args.w) (quadratic c.turned_quadratic.result) c.turned_quadratic.ensures s.requires.0
+    turned-all (quadratic c.args.w) (quadratic c.turned_quadratic.result) c.turned_quadratic.ensures c.requires.0
 
 pub returns : goal.returns
 returns c =
-    let t = c in
-    let s = t in
-    let w = quadratic s.args.w in
-    let f = turned-twice w (quadratic t.turned_quadratic.result) (quadratic c.turned_quadratic-2.result) t.turned_quadratic.ensures c.turned_quadratic-2.ensures in
-    let no = subst (Tells (LeadKept w)) t.if-lead_positive.false t.lead_positive.ensures in
+    let w = quadratic c.args.w in
+    let f = turned-twice w (quadratic c.turned_quadratic.result) (quadratic c.turned_quadratic-2.result) c.turned_quadratic.ensures c.turned_quadratic-2.ensures in
+    let no = subst (Tells (LeadKept w)) c.if-lead_positive.false c.lead_positive.ensures in
     record {
       unit = pair (negsuc 0) (pos 0);
       is_unit = refl;
       square = refl;
       turned = f;
       lead = ⊎_elim
-          (λ z. absurd (s.requires.1 z))
+          (λ z. absurd (c.requires.1 z))
           (λ h. lead_same (λ k. sym (f k)) (⊎_elim (λ l. absurd (no l)) (λ l. l) (lead_first-found w h.0 h.1)))
           (find-top pair-zero? w);
     }

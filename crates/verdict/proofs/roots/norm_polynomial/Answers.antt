@@ -23,7 +23,7 @@ square-requires c = slight_small (quartic c.reals.result) (re_slight c)
 
 module _ (c : goal.After-imaginaries) where
   im_slight : Slight (quartic c.imaginaries.result)
-  im_slight = let s = c in subst Slight (sym c.imaginaries.ensures) (parts_slight s.args.e s.requires).1
+  im_slight = subst Slight (sym c.imaginaries.ensures) (parts_slight c.args.e c.requires).1
 
 pub square-requires-2 : goal.square-requires-2
 square-requires-2 c = slight_small (quartic c.imaginaries.result) (im_slight c)
@@ -39,14 +39,12 @@ added-requires c =
 pub returns : goal.returns
 unfolding norm_polynomial
 returns c k =
-    let i = c in
-    let r = i in
-    let e = leg_powers r.args.e in
-    let m = i.square.result in
+    let e = leg_powers c.args.e in
+    let m = c.square.result in
     let n = c.square-2.result in
     ap (λ (l : List ℤ). at wholes l k) c.added.ensures
     ∙ at_sum wholes_ring (octic m) (octic n) k
     ∙ ap₂ ◌+ℤ◌
-    (sym (i.square.ensures k) ∙ ap (λ (l : List ℤ). at wholes (square wholes l) k) r.reals.ensures)
-    (sym (c.square-2.ensures k) ∙ ap (λ (l : List ℤ). at wholes (square wholes l) k) i.imaginaries.ensures)
+    (sym (c.square.ensures k) ∙ ap (λ (l : List ℤ). at wholes (square wholes l) k) c.reals.ensures)
+    (sym (c.square-2.ensures k) ∙ ap (λ (l : List ℤ). at wholes (square wholes l) k) c.imaginaries.ensures)
     ∙ sym (at_sum wholes_ring (square wholes (reals e)) (square wholes (imaginaries e)) k)
