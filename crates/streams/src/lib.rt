@@ -1,8 +1,9 @@
 // What the programs read and say, as bytes.
 #![tactic(auto)]
 
-ghost use Rattle.std.specs.Prelude.{◌≡◌, ◌<◌, ◌≤◌, length, take, IfOk};
+ghost use Rattle.std.specs.Prelude.{◌≡◌, ◌<◌, ◌≤◌, length, take, IfOk, OnOk};
 ghost use Rattle.std.specs.Io.KnownBytes.{Consumes, IsAtEnd};
+ghost use Rattle.streams.specs.Said.{Says};
 
 use std::io;
 use std::io::{Read, Write};
@@ -37,7 +38,9 @@ fn reason_end(text: &[u8]) -> usize
 }
 
 // Says of a named thing why it cannot be read. The system's reasons have at most 256 bytes.
-pub fn say_error<W: Write>(to: &mut W, name: &[u8], e: &io::Error) -> io::Result<()> {
+pub fn say_error<W: Write>(to: &mut W, name: &[u8], e: &io::Error) -> io::Result<()>
+    ensures { OnOk result (Says (W.contents to.old) (W.contents to.new) name.now) }
+{
     let mut text = [0u8; 320];
     let mut rest: &mut [u8] = &mut text;
     write!(rest, "{e}")?;

@@ -1,0 +1,2 @@
+-- The definition that the contract of say_error cites.
+pub mod Said
