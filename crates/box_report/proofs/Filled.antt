@@ -1,7 +1,7 @@
 -- Totals that are those of some sheets.
 --   boxed_none      no sheets
 --   boxed_added     they stay so with a sheet more, and where the box is full
---   line-room       how long the line of the sheet is that was taken.      totals-room   how long the lines of the totals are
+--   line-room       how long the line of the sheet is that was taken.      totals_room   how long the lines of the totals are
 use mathlib.Core.Path.{◌≡◌, refl, sym, ap, ◌∙◌, subst}
 use mathlib.Core.List.{List, [], ◌∷◌, ◌++◌}
 use Prim.Native.Nat.{ℕ, suc, ◌+◌, ◌≤◌, ◌<◌}

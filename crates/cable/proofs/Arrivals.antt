@@ -1,6 +1,6 @@
 -- The bytes that arrive, and their line.
 --   bytes-all      numbers that a byte holds
---   part_taken     a part more.      count-grows   which is counted
+--   part_taken     a part more.      count_grows   which is counted
 --   Says, says     what is told once the bytes have ended: the answer of their check
 --   line_short     a line has at most 24 bytes
 --   line_first     it is the first of the report

@@ -1,7 +1,7 @@
 -- The numbers of a length: small, and not negative.
 --   root_small           q's coefficients are small enough for `length_by`
 --   content_small        c has at most 15 digits
---   length_nonneg        A is not negative.      denominator-nonneg   nor is B
+--   length_nonneg        A is not negative.      denominator_nonneg   nor is B
 --   longest              2 (n B · 40,000)².      longest-most   at most 11,520,000,000,000
 --   length-size          c A² is at most that: the length √c A / B is at most n √2 · 40,000,
 --   length_small         and A is at most 3,394,113

@@ -1,5 +1,5 @@
 -- Pairs as a ring, and the norm.
---   pairs_ring               the laws; by name times-assoc, times-comm, times-one, times-plus, number-times
+--   pairs_ring               the laws; by name times_assoc, times_comm, times_one, times_plus, number_times
 --   negative-twice           −(−a) = a
 --   plus-minus               what is added is taken off again
 --   multiple-none, none-multiple, multiple-one      a multiple of 0 and by 0 is 0, and once a is a

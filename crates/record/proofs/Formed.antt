@@ -1,7 +1,7 @@
 -- The bytes of a curve's record: they are a whole record, and read back they give the curve's points.
---   record_whole    where the curve is in range they are a whole record.      record-long   how long it is
+--   record_whole    where the curve is in range they are a whole record.      record_long   how long it is
 --   record_points   and hold the curve's points
---   range_is        the test of RANGE says that every point is in range.      range-paired   so it does of numbers taken two by two
+--   range_is        the test of RANGE says that every point is in range.      range_paired   so it does of numbers taken two by two
 use mathlib.Core.Path.{◌≡◌, refl, sym, ap, ◌∙◌, subst}
 use mathlib.Core.Bool.{true}
 use mathlib.Core.Logic.{◌↔◌}

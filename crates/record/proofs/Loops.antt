@@ -1,7 +1,7 @@
 -- What the loops over bytes and numbers carry from turn to turn: the definition from here on equals the definition from the start.
 --   erased-all, erased_stop, erased-more    the bytes FF that a list begins with
 --   within_none, within_fail, within_pass   the coordinates of a record, with what was seen of them
---   numbers-none, numbers_fail, numbers-pass, numbers-at   a list of numbers
+--   numbers-none, numbers_fail, numbers_pass, numbers-at   a list of numbers
 use mathlib.Core.Path.{◌≡◌, sym}
 use mathlib.Core.Bool.{Bool, true, false, ◌&&◌, and-true, and-false}
 use mathlib.Core.List.{List, [], ◌∷◌}

@@ -1,5 +1,5 @@
 -- Each promise has one answer: what meets it twice is equal.
---   put_once     the writing of a record.      held-once   the curve whose record some bytes begin with
+--   put_once     the writing of a record.      held_once   the curve whose record some bytes begin with
 use mathlib.Core.Path.{◌≡◌, refl, sym, ap, ◌∙◌}
 use mathlib.Core.List.{List}
 use Prim.Native.Nat.{ℕ}

@@ -1,6 +1,6 @@
 -- What is said and left where a record is written at a place.
 --   put_back                     a part that was lent and came back is a piece
---   at_range, at_room, at_done   by the tests.      done-by   where it is done, no test stood in the way
+--   at_range, at_room, at_done   by the tests.      done_by   where it is done, no test stood in the way
 --   of_curve                     a curve's record, as the code has it: by the curve's case, and its numbers
 use mathlib.Core.Path.{◌≡◌, sym, ap, ◌∙◌, subst}
 use mathlib.Core.Bool.{true, false}

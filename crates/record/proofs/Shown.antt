@@ -5,7 +5,7 @@
 --   step_may      and its kind may stand there
 --   fault_near    a fault's place lies within the bytes
 --   fault_placed  LEFTOVER stands at the first byte that is not FF, every other fault at the record's first byte
---   erased_ends   such bytes end the sheet.             ends-erased   bytes that end the sheet are such
+--   erased_ends   such bytes end the sheet.             ends_erased   bytes that end the sheet are such
 --   coordinates-same   the same bytes are the same coordinates
 --   Whole         a list that is a record of a kind and nothing more
 --   whole-step    whatever stands behind it, its step is the record.     step-whole   the bytes that a step passes are such a list

@@ -4,7 +4,7 @@
 --   named-is         a name that was found is that of the kind
 --   known-kind       and the name of a kind is found as that kind's
 --   own_name         a record with a kind's name is named so
---   head_of, head_of_row, head-formed   the head of a record, by the four bytes of its row.      head-body   what stands behind it
+--   head_of, head_of_row, head-formed   the head of a record, by the four bytes of its row.      head_body   what stands behind it
 use mathlib.Core.Path.{◌≡◌, refl, ap, ◌∙◌, sym}
 use mathlib.Core.Bool.{true, false≢true}
 use mathlib.Core.List.{List, [], ◌∷◌, ◌++◌, append-nil}

@@ -1,6 +1,6 @@
 -- Bytes as words of four bytes, and words as bytes.
 --   word-bytes     the bytes of a word that is made of four bytes are these
---   words_same     the same bytes are the same words.      words-shifted   also behind something else
+--   words_same     the same bytes are the same words.      words_shifted   also behind something else
 --   coordinates-words   a record's coordinates are words, read as signed
 --   words-length, bytes-length   how many words, and how many bytes
 --   bytes_back     bytes taken as words, enough of them, and back again

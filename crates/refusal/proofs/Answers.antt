@@ -1,5 +1,5 @@
 -- Laws of answers, and the one answer of the promise.
---   by-test, by_order, both_true    how a proof goes through a choice, through the order of two numbers, and what two tests say together
+--   by_test, by_order, both_true    how a proof goes through a choice, through the order of two numbers, and what two tests say together
 --   no_answer                       no answer is both given and refused
 --   given_once, refused_once        one answer gives one thing, or is refused for one fault,
 --   refuse_once                     and for one refusal

@@ -1,9 +1,9 @@
 -- What a call has to say, and the one promise of the calls that refuse by causes.
 --   Answer                          what a call gives, or the fault that it refuses with
 --   refuse                          a refusal by its name and its place
---   number_of_answer                  01's number: 0 where something is given
+--   number_of_answer                01's number: 0 where something is given
 --   with_given, then_given          what is made of what is given; a refusal stays
---   when◌then◌else◌                   a choice by a test, so that definitions read as 01 writes them: in order, the first test that holds decides
+--   when◌then◌else◌                 a choice by a test, so that definitions read as 01 writes them: in order, the first test that holds decides
 --   FirstOr                         the promise: the first of these causes that holds, or else this answer
 use Rattle.std.specs.Prelude.{◌≡◌, Bool, true, false, List, ℕ}
 use Rattle.refusal.specs.declared.Refusal.{Refusal}

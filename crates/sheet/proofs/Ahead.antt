@@ -1,6 +1,6 @@
 -- One pass over a sound sheet, from record to record: what a walk behind `check` knows.
 --   curve_in_range    a curve of a sheet is in range
---   Ahead             where the next record stands, while there is one.      ahead-fits, ahead-near   within the sheet, and its 4,096 bytes
+--   Ahead             where the next record stands, while there is one.      ahead_fits, ahead_near   within the sheet, and its 4,096 bytes
 --   ahead_held        a curve's record is held there
 --   passed            what is held there is the curve of the next number, and where it ends the record behind it stands
 use mathlib.Core.Path.{◌≡◌, refl, sym, ap, subst}

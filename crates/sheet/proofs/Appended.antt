@@ -2,7 +2,7 @@
 --   entry_of          the record of a curve at a place
 --   ended            behind the records of a sound sheet the bytes end it
 --   appended         a record written where the records end: the survey has it last
---   survey-after     so has that of the sheet that append leaves
+--   survey_after     so has that of the sheet that append leaves
 --   append-kept_as, append_fault, append-sound   the promise of append
 use mathlib.Core.Path.{◌≡◌, refl, sym, ap, ◌∙◌, subst}
 use mathlib.Core.Bool.{Bool, true, false}

@@ -8,7 +8,7 @@
 --                    ROOM exactly where the tail is too short
 --   append-listed    after append the sheet has the old records and then the curve's
 --   append-mission   and the old mission
---   read-back        so reading the last number gives the appended points back, and
+--   read_back        so reading the last number gives the appended points back, and
 --   read_old         every other number is read as before
 use mathlib.Core.Path.{◌≡◌, refl, sym, ap, ◌∙◌, subst}
 use mathlib.Core.Bool.{true, false, not, true≢false}

@@ -5,7 +5,7 @@
 --   nth_last, nth_other the curve of a number, where one more stands at the list's end
 --   nth_stands          a curve that has a number is a record that stands, and a curve
 --   numbered-sound, numbered-faulty     what the ending says of the curve of a number
---   Numbered, numbered_of   a curve that has a number: a record that stands, in a sound sheet.      entry-long   it is not empty
+--   Numbered, numbered_of   a curve that has a number: a record that stands, in a sound sheet.      entry_long   it is not empty
 use mathlib.Core.Path.{◌≡◌, refl, sym, ap, ◌∙◌, subst}
 use mathlib.Core.Bool.{Bool, true, false}
 use mathlib.Core.List.{List, [], ◌∷◌, ◌++◌, append_assoc}

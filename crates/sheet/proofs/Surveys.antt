@@ -12,10 +12,10 @@
 --   Parts, parts_of           what is left at a place is its records, and what stands behind them
 --   reads-flat                whole records are found as they stand, and then what is behind them
 --   survey_of_lem                 a sheet of whole records and an erased tail has just these
---   sound_of, faulty_of       what an outcome says of the survey.      short-of   a sound sheet is not too long
+--   sound_of, faulty_of       what an outcome says of the survey.      short_of   a sound sheet is not too long
 --   faulty_once               records end with one fault
 --   sheet_parts               a sheet that is not too long is its records, and what stands behind them
---   parts_tail                that begins where the records end.      no-record-behind   and no record stands there
+--   parts_tail                that begins where the records end.      no_record_behind   and no record stands there
 --   end-within                the records end within the sheet
 use mathlib.Core.Path.{◌≡◌, refl, sym, ap, ◌∙◌, subst}
 use mathlib.Core.Bool.{Bool, true, false}

@@ -1,7 +1,7 @@
 -- What the answer of a state asks of its numbers.
 --   front_long      a state has as many bytes of its front as it says
 --   answer_by_lem       its answer is by how the front ends
---   fault_within    a fault of the front stands within the bytes.      leftover-within   and so does the first byte that is not FF
+--   fault_within    a fault of the front stands within the bytes.      leftover_within   and so does the first byte that is not FF
 use mathlib.Core.Path.{◌≡◌}
 use Prim.Native.Nat.{ℕ, ◌+◌, ◌≤◌}
 use native.Mathlib.Omega.{arith}

@@ -1,6 +1,6 @@
 -- A box worked out by hand: two sheets with a curve of the same length each, and a refused one between them.
 --   diagonal      the quintic (0,0), (1,1), .., (5,5) has 707 hundredths: 5 times the root of 2
---   three         what the three sheets count for.      three-totals   their totals: the first of equals is the longest, and the refused sheet has a number
+--   three         what the three sheets count for.      three_totals_lem   their totals: the first of equals is the longest, and the refused sheet has a number
 use mathlib.Core.Path.{◌≡◌, refl}
 use mathlib.Core.List.{List, [], ◌∷◌}
 use native.Mathlib.Omega.{arith}

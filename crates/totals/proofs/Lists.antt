@@ -1,6 +1,6 @@
 -- The totals of lists that are put together.
 --   numbered_more, curves-more            the curves of a sheet, and of a box, with one more
---   many_append, sum-append               numbers add up.      many-few   no more are counted than there are
+--   many_append, sum-append               numbers add up.      many_few   no more are counted than there are
 --   many_more, many_same                  with one more: its own number, and any other
 --   longer-first, longer-second, longer-none    the longer of two
 --   longer_assoc, longest-append          and of many

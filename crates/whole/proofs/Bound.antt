@@ -9,10 +9,10 @@
 --   abs_plus          the triangle inequality
 --   scaled-within     the bound of a multiple
 --   fits_within       what a bound says of the width
---   read-back tt h    a number with a bound is read back from the bits of an i64
+--   read_back tt h    a number with a bound is read back from the bits of an i64
 -- A need of `x * y - 3 * z`, whatever stands between, is one line, and so is what the code returns (`simp` closes an equation by itself).
 -- Each literal of the code is listed by its value, as bits have literals of their own:
---   sub_result c = bounds (hx ▸ hy ▸ hz ▸ done) (λ ρ e k. simp (e 0, e 1, e 2, readℤ, read-pos ρ 3, kept k) (fits k _ refl))
+--   sub_result c = bounds (hx ▸ hy ▸ hz ▸ done) (λ ρ e k. simp (e 0, e 1, e 2, readℤ, read_pos ρ 3, kept k) (fits k _ refl))
 use mathlib.Core.Path.{◌≡◌, sym, subst}
 use mathlib.Core.Bool.{true}
 use mathlib.Core.List.{List, [], ◌∷◌}

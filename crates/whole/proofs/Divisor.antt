@@ -1,6 +1,6 @@
 -- Divisors in any ring, and greatest common divisors as "the same common divisors".
 --   divides_self, divides_none, divides_plus, divides_multiple, divides_negative, divides_trans
---   Common d p             d divides every coefficient of p; common-nil, common-cons, common-two take a list apart
+--   Common d p             d divides every coefficient of p; common_nil, common_cons, common_two take a list apart
 --   greatest_says          a greatest common divisor of p has just the divisors that p has in common
 --   greatest_is            and what has just those is one
 --   division_common        Euclid's step: x and y have the common divisors of y and r, where x = q y + r

@@ -3,8 +3,8 @@
 --   zeros-end              a number other than 0 is odd without them, and with them again the number
 --   odd_part_le            the odd part of a number is no larger
 --   odd_part_once          and there is one
---   Both d x y             d divides both; both-turned: in whatever order
---   Shared g x y           g has just the divisors that x and y have in common; shared-greatest, greatest-shared: it is the greatest common divisor
+--   Both d x y             d divides both; both_turned: in whatever order
+--   Shared g x y           g has just the divisors that x and y have in common; shared_greatest, greatest_shared: it is the greatest common divisor
 --   shared-turned          the order of the two does not matter
 --   with_zero              0 and a number share what divides the number
 --   shared_le              a divisor of a number other than 0 is no larger

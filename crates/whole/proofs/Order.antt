@@ -4,7 +4,7 @@
 --   nonneg_is         a number that is not negative is its absolute value
 --   compare           a ≤ b or b < a
 --   twice-product : (a b : ℤ) → (pos 2 *ℤ (a *ℤ b)) ≤ℤ (a *ℤ a +ℤ b *ℤ b)
---   twice-product a b = le_by (nonneg_square (a -ℤ b)) (atomsℤ (a ∷ b ∷ []) (λ ρ e. simp (e 0, e 1, readℤ, read-pos ρ) (ringℤ ρ _ _ tt)))
+--   twice-product a b = le_by (nonneg_square (a -ℤ b)) (atomsℤ (a ∷ b ∷ []) (λ ρ e. simp (e 0, e 1, readℤ, read_pos ρ) (ringℤ ρ _ _ tt)))
 use mathlib.Core.Path.{◌≡◌, refl}
 use mathlib.Core.Logic.{◌⊎◌, inl, inr}
 use Prim.Native.Nat.{zero, suc, ◌+◌, ◌≤◌}
