@@ -1,5 +1,5 @@
 # The parts of ./yard that speak of the wrong programs. Each `crates/CRATE/must-fail/LABEL.edit` is one, and its line `for:` says
-# what it is wrong about: a user's call, a callee that no call's wrong program reaches, or a crate of theorems.
+# what it is wrong about: a user's call, a callee that no call's wrong program reaches or that others may take for themselves, or a crate of theorems.
 
 # A line for each wrong program: what it is for, and its label.
 wrong_programs() {

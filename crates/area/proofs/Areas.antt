@@ -1,4 +1,5 @@
--- Lent number areas after a call.
+-- Lent areas after a call.
+--   put_all         values that fit are put whole
 --   fills_none      an area that was cleared whole holds no answer
 --   fills_rest      an area that begins with the answer, and whose rest was lent to `clear`, holds the answer
 --   fills_once      an answer leaves one area of a length
@@ -7,10 +8,13 @@ use mathlib.Core.List.{List, [], ◌++◌, append-nil}
 use Prim.Native.Nat.{ℕ, ◌-◌, ◌≤◌}
 use native.Mathlib.Omega.{arith}
 use lib.IntN.{ℤ, pos}
-use lib.ListN.{length, length-append, length-replicate, take, replicate}
-use lib.Seq.{take_at, drop-length}
+use lib.ListN.{length, length-append, length-replicate, take, drop, replicate}
+use lib.Seq.{take_all, take_at, drop-length}
 use borrow.Rule.Slice.PartMut.{put_mid, mid_of, Post-is, mid_len}
 use Rattle.area.specs.Area.{Cleared, Fills}
+
+pub put_all : {A : Type 0} (area vs : List A) → length vs ≤ length area → take (length area) vs ++ drop (length vs) area ≡ vs ++ drop (length vs) area
+put_all {A} area vs l = ap (λ (xs : List A). xs ++ drop (length vs) area) (take_all (length area) vs l)
 
 pub fills_none : (before : List ℤ) {after : List ℤ} → Cleared before after → Fills [] after
 fills_none before {after} e =

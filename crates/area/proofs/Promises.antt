@@ -1,16 +1,18 @@
 -- The promise of the calls that fill a lent area.
 --   refused_in            a refusal, where the area was cleared
+--   refuse_in             so it is of what `refuse` leaves and returns
 --   given_in              an answer that is given: what is said of it, what it counts, and what the area holds
 --   first_or_in_by        the promise by other causes, and of more that is said of an answer
 --   first_or_in_once      it leaves one answer and one area, where what it says of an answer leaves one
-use mathlib.Core.Path.{◌≡◌, refl, sym, ap, ◌∙◌}
+use mathlib.Core.Path.{◌≡◌, refl, sym, ap, ◌∙◌, subst}
 use mathlib.Core.List.{List}
 use Prim.Native.Nat.{ℕ}
 use lib.IntN.{ℤ, pos}
 use lib.ListN.{length, length-replicate}
+use Rattle.std.specs.Prelude.{Result, Err}
 use Rattle.refusal.specs.declared.Refusal.{Refusal}
 use Rattle.refusal.specs.Table.{Cause, First, number_of}
-use Rattle.refusal.specs.Answers.{Answer, refused, given, refuse, with_given, FirstOr}
+use Rattle.refusal.specs.Answers.{Answer, refused, given, refuse, with_given, FirstOr, answer_of}
 use Rattle.refusal.proofs.Answers.{no_answer, given_once, first_or_once, first_or_by}
 use Rattle.area.specs.Area.{Cleared, Fills}
 use Rattle.area.specs.Promise.{values_of, FirstOrIn}
@@ -26,6 +28,11 @@ module _ {A : Type 0} {causes : List Cause} {Says : A → Type 0} {numbers : A �
     same_room = ap length e ∙ length-replicate (length before) (pos 0);
     fills = fills_none before e;
   }
+
+  pub refuse_in : {after : List ℤ} {s : Result ℕ Refusal} (r : Refusal) → First causes (number_of r) → Cleared before after × (s ≡ Err r)
+      → FirstOrIn causes Says numbers count before after (answer_of s)
+  refuse_in {after} r h (e, f) =
+      subst (λ (s : Result ℕ Refusal). FirstOrIn causes Says numbers count before after (answer_of s)) (sym f) (refused_in r h e)
 
   pub given_in : {after : List ℤ} {n : ℕ} → FirstOrIn causes Says numbers count before after (given n)
       → (x : A) × Says x × (n ≡ count x) × Fills (numbers x) after

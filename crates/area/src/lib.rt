@@ -1,15 +1,32 @@
-// Lent number areas: what one holds after a call, and the clearing of one.
+// Lent areas: what one of numbers holds after a call, the clearing of one, a refusal that leaves one cleared, and a copy into one.
 #![tactic(auto)]
 
+ghost use Rattle.std.specs.Prelude.{◌≡◌, ◌++◌, Err, length, take, drop};
 ghost use Rattle.area.specs.Area.{Cleared};
+
+use refusal::Refusal;
 
 // Every number of the area is 0 afterwards.
 pub fn clear(area: &mut [i64])
     ensures { Cleared area.old area.new }
 {
-    let mut i: usize = 0;
-    while i < area.len() {
-        area[i] = 0;
-        i += 1;
+    area.fill(0);
+}
+
+// A refusal, and the area all zero.
+pub fn refuse<T>(area: &mut [i64], r: Refusal) -> Result<T, Refusal>
+    ensures { Cleared area.old area.new × (result ≡ Err r) }
+{
+    clear(area);
+    Err(r)
+}
+
+// As much of the values as there is room for, from the area's start; what stands behind them stays.
+// By an index: std's copy of a slice of any length is a call of memcpy, and a bare board has no C library.
+pub fn put<T: Copy>(area: &mut [T], values: &[T])
+    ensures { area.new ≡ take (length area.old) values.now ++ drop (length values.now) area.old }
+{
+    for i in 0..area.len().min(values.len()) {
+        area[i] = values[i];
     }
 }

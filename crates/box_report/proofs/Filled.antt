@@ -8,7 +8,7 @@ use Prim.Native.Nat.{ℕ, suc, ◌+◌, ◌≤◌, ◌<◌}
 use native.Mathlib.Omega.{arith}
 use lib.ListN.{length, length-append}
 use Rattle.refusal.proofs.Answers.{by_order}
-use Rattle.sheet.specs.Promise.{answer_of_checked}
+use Rattle.refusal.specs.Answers.{answer_at}
 use Rattle.totals.specs.declared.Totals.{Totals}
 use Rattle.totals.specs.declared.Added.{Added}
 use Rattle.totals.specs.Totals.{totals_of, IsTotals}
@@ -31,7 +31,7 @@ module _ (t : Totals) (s : List ℕ) (r : Added) (b : Boxed t) (a : Adds t s r) 
   pub boxed_added : Boxed r.totals
   boxed_added = by_order (suc t.sheets) 1000 (λ l. boxed_taken (omega arith)) (λ l. subst Boxed (sym (a.full (omega arith)).0) b)
 
-  pub line-room : (name : List ℕ) → (r.totals.sheets ≡ t.sheets → ⊥) → length (sheet_line r.totals.sheets name (answer_of_checked r.answer)) ≤ length name + 32
+  pub line-room : (name : List ℕ) → (r.totals.sheets ≡ t.sheets → ⊥) → length (sheet_line r.totals.sheets name (answer_at r.answer)) ≤ length name + 32
   line-room name n =
       by_order (suc t.sheets) 1000
       (λ l.

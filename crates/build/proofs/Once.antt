@@ -1,24 +1,19 @@
 -- One answer of the builders.
 --   built_once     what is promised of an answer leaves one
 use mathlib.Core.Path.{◌≡◌, sym, ap, ◌∙◌}
-use Rattle.refusal.proofs.Answers.{refuse_once, first_or_once}
+use Rattle.std.specs.Prelude.{Result}
+use Rattle.refusal.specs.declared.Refusal.{Refusal}
+use Rattle.refusal.specs.Answers.{answer_of}
+use Rattle.refusal.proofs.Answers.{answer_once, first_or_once}
 use Rattle.pair.specs.declared.Pair.{Pair}
 use Rattle.curve.specs.declared.Curve.{Curve}
 use Rattle.curve.proofs.Points.{curve_once}
-use Rattle.build.specs.declared.BuildAnswer.{BuildAnswer}
-use Rattle.build.specs.declared.BuildAnswer.TheVariants as answer
-use Rattle.build.specs.Promise.{Source, points, causes, answer_of_built, BuiltFrom, Built}
+use Rattle.build.specs.Promise.{Source, points, causes, BuiltFrom, Built}
 use Rattle.build.proofs.Legs.{legs_once}
-
-answer_once : (r t : BuildAnswer) → answer_of_built r ≡ answer_of_built t → r ≡ t
-answer_once (answer.Built c) (answer.Built d) e = cc
-answer_once (answer.Built c) (answer.Refused t) e = cc
-answer_once (answer.Refused r) (answer.Built d) e = cc
-answer_once (answer.Refused r) (answer.Refused t) e = ap answer.Refused (refuse_once Curve e)
 
 module _ (p0 : Pair) (s : Source) where
   curves_once : (c d : Curve) → BuiltFrom p0 s c → BuiltFrom p0 s d → c ≡ d
   curves_once c d h k = curve_once c d (h.by_legs ∙ ap (points p0) (legs_once s h.legs k.legs h.are_legs k.are_legs) ∙ sym k.by_legs)
 
-  pub built_once : (r t : BuildAnswer) → Built p0 s r → Built p0 s t → r ≡ t
-  built_once r t h k = answer_once r t (first_or_once (causes p0 s) (BuiltFrom p0 s) curves_once (answer_of_built r) (answer_of_built t) h k)
+  pub built_once : (r t : Result Curve Refusal) → Built p0 s r → Built p0 s t → r ≡ t
+  built_once r t h k = answer_once r t (first_or_once (causes p0 s) (BuiltFrom p0 s) curves_once (answer_of r) (answer_of t) h k)

@@ -9,13 +9,13 @@
 --   NoThird t, NoMiddle s    t has a part that 3 does not divide; s has no middle leg for that reason
 --   source_out_of_range, all_zero, no_third, point_out_of_range      the causes of refusal
 --   causes p0 s              their order
---   answer_of_built            the curve, or the refusal
 --   BuiltFrom p0 s c         c has the points that begin at p0 and go by the legs of s
 --   Built p0 s r             the promise
-use Rattle.std.specs.Prelude.{◌≡◌, List, [], ◌∷◌, ℕ, pos}
+use Rattle.std.specs.Prelude.{◌≡◌, List, [], ◌∷◌, ℕ, pos, Result}
+use Rattle.refusal.specs.declared.Refusal.{Refusal}
 use Rattle.refusal.specs.declared.Refusal.TheVariants.{Range, Still, Thirds}
 use Rattle.refusal.specs.Table.{Cause}
-use Rattle.refusal.specs.Answers.{Answer, refuse, given, FirstOr}
+use Rattle.refusal.specs.Answers.{answer_of, FirstOr}
 use Rattle.poly.specs.Polynomials.{Same}
 use Rattle.pair.specs.declared.Pair.{Pair}
 use Rattle.pair.specs.Pairs.{pairs, plus, times, multiple, PartsWithin, AllWithin}
@@ -23,8 +23,6 @@ use Rattle.divisor.specs.Promise.{Undivided}
 use Rattle.curve.specs.declared.Curve.{Curve}
 use Rattle.curve.specs.Sizes.{coordinate_reach}
 use Rattle.curve.specs.Curves.{InRange, points_of}
-use Rattle.build.specs.declared.BuildAnswer.{BuildAnswer}
-use Rattle.build.specs.declared.BuildAnswer.TheVariants as answer
 
 pub data Source : Type 0 where
   cubic : Pair → Pair → Source
@@ -81,14 +79,10 @@ abbrev pub causes : Pair → Source → List Cause
 causes p0 s = source_out_of_range p0 s ∷ all_zero s ∷ no_third s ∷ point_out_of_range p0 s ∷ []
 
 -- ---- the promise
-abbrev pub answer_of_built : BuildAnswer → Answer Curve
-answer_of_built (answer.Built c) = given c
-answer_of_built (answer.Refused r) = refuse r 0
-
 pub record BuiltFrom (p0 : Pair) (s : Source) (c : Curve) : Type 0 where
   pub legs : List Pair
   pub are_legs : AreLegs s legs
   pub by_legs : points_of c ≡ points p0 legs
 
-abbrev pub Built : Pair → Source → BuildAnswer → Type 0
-Built p0 s r = FirstOr (causes p0 s) (BuiltFrom p0 s) (answer_of_built r)
+abbrev pub Built : Pair → Source → Result Curve Refusal → Type 0
+Built p0 s r = FirstOr (causes p0 s) (BuiltFrom p0 s) (answer_of r)

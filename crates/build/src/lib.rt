@@ -1,4 +1,5 @@
 // Cubics and quintics from a first point and a pre-image: their legs are the square of a polynomial that is given by its Bernstein coefficients.
+// The range of each w stands in the contracts: the public calls take pairs of any size, and a struct of w would be filled there only to be taken apart.
 #![tactic(auto)]
 
 ghost use Rattle.std.specs.Prelude.{◌≡◌, ◌∷◌, [], ◌^◌};
@@ -10,36 +11,21 @@ ghost use Rattle.build.specs.Promise.{cubic, quintic, thrice, points, Allowed, B
 ghost use Rattle.build.specs.Steps.{Next, Ranged};
 
 use curve::{COORDINATE_REACH, Cubic, Curve, Quintic, in_range};
-use divisor::{PairQuotient, over_whole};
-use pair::{Pair, multiple, product, sum, three_are_zero, within};
+use divisor::over_whole;
+use pair::{Pair, ZERO, multiple, product, sum, three_are_zero, within};
 use refusal::Refusal;
 
 // How far a part of w may be from 0.
 const SOURCE_REACH: u32 = 200;
 
-#[derive(Clone, Copy)]
-pub enum BuildAnswer {
-    Built(Curve),
-    Refused(Refusal),
-}
-
-// Whether p0 and each w are in range. A cubic has two: 0 stands for the third.
+// Whether p0 and each w are in range. A cubic has two: 0 stands for the third, so that one test of three serves both kinds without a loop.
 fn allowed(p0: Pair, w0: Pair, w1: Pair, w2: Pair) -> bool
     ensures { Tells (Allowed p0 (w0 ∷ w1 ∷ w2 ∷ [])) result }
 {
-    if !within(p0, COORDINATE_REACH) {
-        return false;
-    }
-    if !within(w0, SOURCE_REACH) {
-        return false;
-    }
-    if !within(w1, SOURCE_REACH) {
-        return false;
-    }
-    if !within(w2, SOURCE_REACH) {
-        return false;
-    }
-    true
+    within(p0, COORDINATE_REACH)
+        && within(w0, SOURCE_REACH)
+        && within(w1, SOURCE_REACH)
+        && within(w2, SOURCE_REACH)
 }
 
 // 2 w1^2 + w0 w2
@@ -47,10 +33,7 @@ fn thrice_middle(w0: Pair, w1: Pair, w2: Pair) -> Pair
     requires { PartsWithin source_reach w0 × PartsWithin source_reach w1 × PartsWithin source_reach w2 }
     ensures { result ≡ thrice w0 w1 w2 }
 {
-    let a = product(w1, w1);
-    let b = multiple(2, a);
-    let c = product(w0, w2);
-    sum(b, c)
+    sum(multiple(2, product(w1, w1)), product(w0, w2))
 }
 
 // p + a b: the next point, where the leg is a product.
@@ -61,6 +44,7 @@ fn next(p: Pair, a: Pair, b: Pair) -> Pair
     sum(p, product(a, b))
 }
 
+// By hand for each kind: the middle leg of a quintic is no product of two w, so a loop over the legs would need a list of them first.
 fn cubic_points(p0: Pair, w0: Pair, w1: Pair) -> Curve
     requires { PartsWithin coordinate_reach p0 × PartsWithin source_reach w0 × PartsWithin source_reach w1 }
     ensures { points_of result ≡ points p0 (times w0 w0 ∷ times w0 w1 ∷ times w1 w1 ∷ []) }
@@ -92,41 +76,39 @@ fn quintic_points(p0: Pair, w0: Pair, w1: Pair, w2: Pair, d2: Pair) -> Curve
 }
 
 // The curve, if it is in range.
-fn ranged(curve: Curve) -> BuildAnswer
+fn ranged(curve: Curve) -> Result<Curve, Refusal>
     ensures { Ranged (points_of curve) result }
 {
     if in_range(curve) {
-        return BuildAnswer::Built(curve);
+        Ok(curve)
+    } else {
+        Err(Refusal::Range)
     }
-    BuildAnswer::Refused(Refusal::Range)
 }
 
 // The cubic from p0 with the legs w0^2, w0 w1, w1^2.
-pub fn build_cubic(p0: Pair, w0: Pair, w1: Pair) -> BuildAnswer
+pub fn build_cubic(p0: Pair, w0: Pair, w1: Pair) -> Result<Curve, Refusal>
     ensures { Built p0 (cubic w0 w1) result }
 {
-    let zero = Pair { re: 0, im: 0 };
-    if !allowed(p0, w0, w1, zero) {
-        return BuildAnswer::Refused(Refusal::Range);
+    if !allowed(p0, w0, w1, ZERO) {
+        return Err(Refusal::Range);
     }
-    if three_are_zero(w0, w1, zero) {
-        return BuildAnswer::Refused(Refusal::Still);
+    if three_are_zero(w0, w1, ZERO) {
+        return Err(Refusal::Still);
     }
     ranged(cubic_points(p0, w0, w1))
 }
 
 // The quintic from p0 with the legs w0^2, w0 w1, (2 w1^2 + w0 w2) / 3, w1 w2, w2^2.
-pub fn build_quintic(p0: Pair, w0: Pair, w1: Pair, w2: Pair) -> BuildAnswer
+pub fn build_quintic(p0: Pair, w0: Pair, w1: Pair, w2: Pair) -> Result<Curve, Refusal>
     ensures { Built p0 (quintic w0 w1 w2) result }
 {
     if !allowed(p0, w0, w1, w2) {
-        return BuildAnswer::Refused(Refusal::Range);
+        return Err(Refusal::Range);
     }
     if three_are_zero(w0, w1, w2) {
-        return BuildAnswer::Refused(Refusal::Still);
+        return Err(Refusal::Still);
     }
-    let PairQuotient::Whole(d2) = over_whole(thrice_middle(w0, w1, w2), 3) else {
-        return BuildAnswer::Refused(Refusal::Thirds);
-    };
+    let d2 = over_whole(thrice_middle(w0, w1, w2), 3).ok_or(Refusal::Thirds)?;
     ranged(quintic_points(p0, w0, w1, w2, d2))
 }

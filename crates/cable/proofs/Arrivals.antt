@@ -1,7 +1,7 @@
 -- The bytes that arrive, and their line.
 --   bytes-all      numbers that a byte holds
---   part_taken     a part more.      count_grows   which is counted
---   Says, says     what is told once the bytes have ended: the answer of their check
+--   part_ok, part_taken     a part more, which is not refused.      count_grows   which is counted
+--   Says, says, says_ok, says_some     what is told once the bytes have ended: the answer of their check, which is there
 --   line_short     a line has at most 24 bytes
 --   line_first     it is the first of the report
 use mathlib.Core.Path.{◌≡◌, refl, sym, ap, ◌∙◌, subst}
@@ -12,12 +12,17 @@ use native.Mathlib.Omega.{arith}
 use lib.ListN.{length, get_or, length-append}
 use mir.Syntax.{w8}
 use mir.Val.{Fits}
+use Rattle.std.specs.Prelude.{Option, Some, None, Result, Ok, Err}
+use Rattle.std.specs.Option.{IsSome}
+use Rattle.std.specs.Result.{IsOk}
+use Rattle.refusal.specs.declared.Refusal.{Refusal}
+use Rattle.refusal.specs.declared.Fault.{Fault}
 use Rattle.refusal.specs.Answers.{Answer, refused, given, with_given}
 use Rattle.refusal.proofs.Answers.{by_order}
 use Rattle.record.specs.Numbers.{AllBytes}
 use Rattle.record.specs.Records.{longest}
 use Rattle.record.proofs.Words.{all_append}
-use Rattle.sheet.specs.declared.Mission.{Mission}
+use Rattle.sheet.specs.declared.Checked.{Checked}
 use Rattle.sheet.specs.Survey.{Entry, survey, outcome, mission_of}
 use Rattle.sheet.specs.Promise.{count_of, told_of, Checks}
 use Rattle.sheet.proofs.Surveys.{sound_of}
@@ -26,9 +31,6 @@ use Rattle.sheet.proofs.Missions.{mission_small}
 use Rattle.report_text.specs.Promise.{ReportOf, Report}
 use Rattle.report_text.proofs.Short.{refused_short, first_short}
 use Rattle.states.specs.declared.State.{State}
-use Rattle.parts.specs.declared.Fed.{Fed}
-use Rattle.parts.specs.declared.Told.{Told}
-use Rattle.parts.specs.declared.Told.TheVariants as told
 use Rattle.states.specs.States.{state_of, IsOf}
 use Rattle.parts.specs.Promise.{Feeds, EndsSheet, ends, Asks, checked}
 use Rattle.states.specs.Steps.{answer_in}
@@ -44,11 +46,13 @@ bytes-all (b ∷ bytes) h = (omega (arith, h 0), bytes-all bytes (λ i. h (suc i
 
 -- ---- a part more
 
-pub part_taken : (st : State) (s part : List ℕ) (x : Fed) → AllBytes part → Feeds st part x → IsOf st s false → IsOf x.state (s ++ part) false
-part_taken st s part x b f h = record {
-  bytes = all_append s part h.bytes b;
-  is = ap (λ (y : Fed). y.state) (feeds_each st s part x h f);
-}
+pub part_ok : (st : State) (s part : List ℕ) (x : Result State Fault) → Feeds st part x → IsOf st s false → IsOk x
+part_ok st s part x f h = subst IsOk (sym (feeds_each st s part x h f)) refl
+
+pub part_taken : (st next : State) (s part : List ℕ) {x : Result State Fault} → AllBytes part → Feeds st part x → x ≡ Ok next → IsOf st s false → IsOf next (s ++ part) false
+part_taken st next s part {x} b f e h =
+    let p = feeds_each st s part x h f in
+    record { bytes = all_append s part h.bytes b; is = cc }
 
 count_of_lem : (st : State) (s : List ℕ) (ended : Bool) → IsOf st s ended → st.count ≡ min (length s) (suc longest)
 count_of_lem st s ended h =
@@ -63,19 +67,27 @@ count_grows st next s part h k some l =
 
 -- ---- the end
 
-abbrev pub Says : List ℕ → Told → Type 0
-Says s (told.Sheet answer) = Checks s answer
-Says s told.NotEnded = ⊥
-Says s (told.Refused r) = ⊥
+abbrev pub Says : List ℕ → Result (Option (Result Checked Fault)) Refusal → Type 0
+Says s (Ok (Some answer)) = Checks s answer
+Says s (Ok None) = ⊥
+Says s (Err r) = ⊥
 
-pub says : (st ended : State) (x : Told) → EndsSheet st ended → Asks ended x → (s : List ℕ) → IsOf st s false → Says s x
-says st ended x e a s h = subst (Says s) (sym (asks_once ended x (told.Sheet (answer_in ended)) a (checked s (answer_in ended) k c))) c
+pub says : (st ended : State) (x : Result (Option (Result Checked Fault)) Refusal) → EndsSheet st ended → Asks ended x → (s : List ℕ) → IsOf st s false → Says s x
+says st ended x e a s h = subst (Says s) (sym (asks_once ended x (Ok (Some (answer_in ended))) a (checked s (answer_in ended) k c))) c
   where
     k : IsOf ended s true
     k = record { bytes = h.bytes; is = ends_once st ended (state_of s true) e (ends s false h) }
 
     c : Checks s (answer_in ended)
     c = answer-is ended s true k
+
+pub says_ok : (s : List ℕ) (x : Result (Option (Result Checked Fault)) Refusal) → Says s x → IsOk x
+says_ok s (Ok y) h = refl
+says_ok s (Err r) h = absurd h
+
+pub says_some : (s : List ℕ) (y : Option (Result Checked Fault)) → Says s (Ok y) → IsSome y
+says_some s (Some answer) h = refl
+says_some s None h = absurd h
 
 -- ---- the line
 
@@ -94,6 +106,6 @@ line_short s bytes = by (outcome s) refl
 pub line_first : (s text : List ℕ) → Report s text → (rest : List ℕ) × (text ≡ line_of s ++ rest)
 line_first s text = by (with_given told_of (outcome s))
   where
-    by : (a : Answer (Mission × ℕ)) → ReportOf s a text → (rest : List ℕ) × (text ≡ answer_line a ++ rest)
+    by : (a : Answer Checked) → ReportOf s a text → (rest : List ℕ) × (text ≡ answer_line a ++ rest)
     by (refused f) h = ([], h ∙ sym (append-nil (answer_line (refused f))))
-    by (given (m, count)) (lines, of_curves, is) = (lines, is)
+    by (given told) (lines, of_curves, is) = (lines, is)

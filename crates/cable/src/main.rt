@@ -4,72 +4,54 @@
 
 mod lines;
 
-ghost use Rattle.std.specs.Prelude.{◌≤◌, length, IfOk};
+ghost use Rattle.std.specs.Prelude.{◌≤◌, length, IfOk, IfSome};
 ghost use Rattle.cable.specs.Cables.{Arriving, Takes, Stopped, LineIn};
 
 use lines::line_of;
-use parts::{Told, ask, end, feed, start};
+use parts::{ask, end, feed, start};
 use record::LONGEST;
 use states::State;
 use std::io;
 use std::io::{Read, Write};
 use streams::say_error;
 
-// Why no more is read: the input has ended, cannot be read, or has more bytes than a sheet.
-#[derive(Clone, Copy)]
-enum Stop {
-    End,
-    Failed,
-    TooMany,
+// What is left of the bytes that arrived: of the whole input, or of more bytes than a sheet has, where no end is waited for. Both have the same
+// line; it is the promise `Stopped` of take_parts that tells them apart.
+#[derive(Clone, Copy, Debug, PartialEq, Eq)]
+enum Arrived {
+    Whole(State),
+    TooMany(State),
 }
 
-// What is left of the bytes that arrived.
-#[derive(Clone, Copy)]
-struct Arrived {
-    state: State,
-    stop: Stop,
-}
-
+// Bytes that have not ended take any part.
 fn take_part(state: State, part: &[u8]) -> State
     requires { Arriving state }
     ensures { Takes state part.now result }
 {
-    let fed = feed(state, part);
-    fed.state
+    feed(state, part).unwrap()
 }
 
-// Takes each part as it arrives, up to the end of the input. What is too long stays so, and no end is waited for then.
+// Takes each part as it arrives, up to the end of the input or the first byte too many. Says why where the input cannot be read.
 fn take_parts<R: Read, W: Write>(
     input: &mut R,
     errors: &mut W,
     area: &mut [u8],
-) -> io::Result<Arrived>
-    ensures { IfOk result (λ arrived. Arriving arrived.state × Stopped arrived.state arrived.stop) }
+) -> io::Result<Option<Arrived>>
+    ensures { IfOk result (λ arrived. IfSome arrived Stopped) }
 {
     let mut state = start();
+    // By hand: it reads until the input ends, and counts no index.
     while state.count <= LONGEST {
-        let n = match input.read(area) {
-            Ok(n) => n,
+        match input.read(area) {
+            Ok(0) => return Ok(Some(Arrived::Whole(state))),
+            Ok(n) => state = take_part(state, &area[..n]),
             Err(e) => {
                 say_error(errors, b"standard input", &e)?;
-                return Ok(Arrived {
-                    state,
-                    stop: Stop::Failed,
-                });
+                return Ok(None);
             }
-        };
-        if n == 0 {
-            return Ok(Arrived {
-                state,
-                stop: Stop::End,
-            });
         }
-        state = take_part(state, &area[..n]);
     }
-    Ok(Arrived {
-        state,
-        stop: Stop::TooMany,
-    })
+    Ok(Some(Arrived::TooMany(state)))
 }
 
 // The line of the bytes that were taken, which have ended.
@@ -77,27 +59,22 @@ fn line_in(state: State, text: &mut [u8]) -> usize
     requires { Arriving state × (24 ≤ length text.old) }
     ensures { LineIn state result text.new }
 {
-    let ended = end(state);
-    let told = ask(ended);
-    match told {
-        Told::Sheet(answer) => line_of(answer, text),
-        // The state of bytes that have ended is neither of these.
-        Told::NotEnded => 0,
-        Told::Refused(_) => 0,
-    }
+    // Once the bytes have ended, their state is not refused, and there is an answer.
+    line_of(ask(end(state)).unwrap().unwrap(), text)
 }
 
 fn check_input(rt: &HostRuntime, area: &mut [u8], text: &mut [u8]) -> io::Result<()>
     requires { 24 ≤ length text.old }
 {
-    let arrived = take_parts(&mut rt.stdin(), &mut rt.stderr(), area)?;
-    let stop = arrived.stop;
-    if let Stop::Failed = stop {
-        return Ok(());
+    if let Some(Arrived::Whole(state) | Arrived::TooMany(state)) = take_parts(
+        &mut rt.stdin(),
+        &mut rt.stderr(),
+        area,
+    )? {
+        let end = line_in(state, text);
+        rt.stdout().write_all(&text[..end])?;
     }
-    let state = arrived.state;
-    let end = line_in(state, text);
-    rt.stdout().write_all(&text[..end])
+    Ok(())
 }
 
 // No line is longer than 24 bytes.

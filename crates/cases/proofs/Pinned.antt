@@ -1,12 +1,13 @@
 -- The document's sheets hold. What a row says is computed, but for the sheets of 4,096 bytes and more, which are known by their length.
 --   sheets_hold     the one statement over them
-use mathlib.Core.Path.{◌≡◌, refl, sym, ap, ◌∙◌}
+use mathlib.Core.Path.{refl, sym, ap, ◌∙◌}
 use mathlib.Core.Bool.{true}
 use mathlib.Core.List.{List}
 use Prim.Native.Nat.{ℕ}
 use native.Mathlib.Omega.{arith}
 use lib.IntN.{pos}
 use lib.ListN.{replicate, length-replicate}
+use Rattle.std.specs.Prelude.{◌≡◌, Result, None, Ok, Err}
 use Rattle.refusal.specs.declared.Refusal.TheVariants as refusal
 use Rattle.refusal.specs.declared.Fault.{Fault}
 use Rattle.refusal.specs.Answers.{with_given, when◌then◌else◌}
@@ -26,8 +27,6 @@ use Rattle.record.specs.Kinds.{words, numbers_of, points_in}
 use Rattle.record.specs.Records.{erased, erased_end, erased_step, named, kind_in, may_stand, all_within, sized_step, step_of}
 use Rattle.record.proofs.Formed.{range_is}
 use Rattle.record.specs.Promise.{putting_at}
-use Rattle.sheet.specs.declared.Mission.TheVariants.{None}
-use Rattle.sheet.specs.declared.Change.TheVariants as change
 use Rattle.sheet.specs.Survey.{Survey, survey_from, survey_of, survey, soundly, outcome}
 use Rattle.sheet.specs.Promise.{told_of, starting, appending}
 use Rattle.sheet.proofs.Surveys.{survey-long}
@@ -58,7 +57,7 @@ minus_ones-near : all_within (numbers_of (points_of minus_ones)) ≡ true
 unfolding all_within
 minus_ones-near = refl
 
-minus_ones-recognised : Recognised (points_of minus_ones) verdict.Still
+minus_ones-recognised : Recognised (points_of minus_ones) (Ok verdict.Still)
 minus_ones-recognised =
     recognised_by (points_of minus_ones) ((range_is (points_of minus_ones)).0 minus_ones-near) verdict.Still
     (λ k. ap (λ (p : List Pair). at pairs p k) minus_ones-legs ∙ at-zeros pairs 3 k)
@@ -83,8 +82,8 @@ sample_reported = (
 
 -- ---- all of them
 
-not_done : {A : Type 0} {f : Fault} → change.Refused f ≡ change.Done → A
-not_done e = let z : ◌≡◌ {A = ℕ} 0 1 = cc in absurd (omega arith)
+not_done : {A : Type 0} {f : Fault} → ◌≡◌ {A = Result (Unit {0}) Fault} (Err f) (Ok tt) → A
+not_done e = cc
 
 infixr 4 ◌and◌
 ◌and◌ : {A B : Type 0} → A → B → A × B

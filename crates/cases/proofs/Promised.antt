@@ -12,6 +12,7 @@ use Prim.Native.Nat.{ℕ, ◌+◌, ◌-◌, ◌*◌, ◌≤◌, ◌<◌}
 use native.Mathlib.Omega.{arith}
 use lib.IntN.{ℤ, pos, nat_abs, ◌*ℤ◌, zero-*ℤ}
 use lib.ListN.{length, replicate, length-append, length-replicate}
+use Rattle.std.specs.Prelude.{Ok}
 use Rattle.refusal.specs.Table.{Cause, First}
 use Rattle.refusal.specs.Answers.{given}
 use Rattle.refusal.proofs.Laws.{first_after_lem}
@@ -34,19 +35,15 @@ use Rattle.verdict.specs.declared.Square.{Square}
 use Rattle.verdict.specs.declared.Preimage.{Preimage}
 use Rattle.verdict.specs.declared.Verdict.{Verdict}
 use Rattle.verdict.specs.declared.Verdict.TheVariants as verdict
-use Rattle.verdict.specs.declared.PreimageAnswer.TheVariants.{Found}
 use Rattle.verdict.specs.Verdicts.{Still, SquareOf, PreimageOf, Holds}
 use Rattle.verdict.specs.Promise.{still, not_ph, no_preimage, Recognised, Preimaged}
 use Rattle.verdict.proofs.Multiples.{not-squared_moves}
 use Rattle.verdict.proofs.Refusals.{recognised_by, recognised_preimage}
 use Rattle.measure.specs.declared.Turning.{Turning}
 use Rattle.measure.specs.declared.lengths.Length.{Length}
-use Rattle.measure.specs.declared.LengthAnswer.TheVariants as L
-use Rattle.measure.specs.declared.InflectionAnswer.TheVariants as I
 use Rattle.measure.specs.Lengths.{length_of}
 use Rattle.measure.specs.Turns.{turning_of, Straight, CountIs}
 use Rattle.measure.specs.Promise.{Measured, Inflected}
-use Rattle.offset.specs.declared.OffsetAnswer.TheVariants.{Written}
 use Rattle.offset.specs.Promise.{offset_curve, offset_numbers, needs, beyond, no_root, no_room, OffsetBy}
 use Rattle.join.specs.Promise as join
 use Rattle.cases.specs.Rows.{Claim, SaysAll, CurveHolds, Long, JoinsHold, filled}
@@ -61,7 +58,7 @@ in_range_lem : (ps : List Pair) → spread ps ≤ coordinate_reach → InRange p
 in_range_lem [] h = tt
 in_range_lem (p ∷ ps) h = (record { re = record { size = omega arith }; im = record { size = omega arith } }, in_range_lem ps (omega arith))
 
-recognised : (ps : List Pair) (v : Verdict) → spread ps ≤ coordinate_reach → Holds (leg_polynomial ps) v → Recognised ps v
+recognised : (ps : List Pair) (v : Verdict) → spread ps ≤ coordinate_reach → Holds (leg_polynomial ps) v → Recognised ps (Ok v)
 recognised ps v h k = recognised_by ps (in_range_lem ps h) v k
 
 -- a curve whose N is c q² is not still: 0 would divide c
@@ -75,7 +72,7 @@ D curve = leg_polynomial (points_of curve)
 
 -- a record, so that it says by itself of which curve
 pub record Finds (curve : Curve) (p : Preimage) : Type 0 where
-  pub found : Preimaged (points_of curve) (Found p)
+  pub found : Preimaged (points_of curve) (Ok p)
 
 module _ {curve : Curve} {claims : List Claim} (small : spread (points_of curve) ≤ coordinate_reach) where
   pub no_row : (x y : ℤ) → Between (value wholes x (norm_polynomial (D curve)) *ℤ value wholes y (norm_polynomial (D curve)))
@@ -94,7 +91,7 @@ module _ {curve : Curve} {claims : List Claim} (small : spread (points_of curve)
   pub pre-row : {p : Preimage} → PreimageOf (D curve) p → (Finds curve p → SaysAll curve claims) → CurveHolds curve (verdict.Pre p) claims
   pre-row {p} h f =
       let r = recognised (points_of curve) (verdict.Pre p) small (square_moves (D curve) p.square h.square_of, h) in
-      record { recognised = r; said = f (record { found = recognised_preimage (points_of curve) (verdict.Pre p) r }) }
+      record { recognised = r; said = f (record { found = recognised_preimage (points_of curve) (Ok (verdict.Pre p)) r }) }
 
 -- ---- an area made of an answer and zeros
 filled-length : (room : ℕ) (vs : List ℤ) → length vs ≤ room → length (filled room vs) ≡ room
@@ -109,18 +106,18 @@ abbrev no_way : List Pair → List Cause
 no_way ps = still ps ∷ not_ph ps ∷ no_preimage ps ∷ []
 
 module _ {curve : Curve} {p : Preimage} (i : Finds curve p) where
-  pub measured : {l : Length} → l ≡ length_of curve p.square → Measured curve (L.Found l)
+  pub measured : {l : Length} → l ≡ length_of curve p.square → Measured curve (Ok l)
   measured e = (i.found.0, record { preimage = p; is_preimage = i.found.1; has = e })
 
   pub long : {whole : ℕ} → let l = length_of curve p.square in l.c *ℤ (l.a *ℤ l.a) ≡ pos (whole * whole) *ℤ (l.b *ℤ l.b) → Long curve whole
   long e = record { l = length_of curve p.square; measured = measured refl; is = e }
 
-  pub turned : {x : Turning} {k : ℕ} → x ≡ turning_of p.w → CountIs x k → (Straight x → ⊥) → Inflected curve (I.Found (record { turning = x; count = k; straight = false }))
+  pub turned : {x : Turning} {k : ℕ} → x ≡ turning_of p.w → CountIs x k → (Straight x → ⊥) → Inflected curve (Ok (record { turning = x; count = k; straight = false }))
   turned e n s = (i.found.0, record { preimage = p; is_preimage = i.found.1; has = record { turning = e; count = n; straight = s } })
 
   pub offset : {h : ℤ} {vs : List ℤ} (m : ℕ) → p.square.c ≡ pos (m * m) → Within coordinate_reach h
       → offset_numbers curve (offset_curve (points_of curve) (scaled wholes (pos m) (quartic p.square.q)) h) ≡ vs → length vs ≡ needs curve
-      → (area : List ℤ) → needs curve ≤ length area → OffsetBy curve h area (filled (length area) vs) (Written (needs curve))
+      → (area : List ℤ) → needs curve ≤ length area → OffsetBy curve h area (filled (length area) vs) (Ok (needs curve))
   offset {h} {vs} m root w e l area room = record {
     answer = given vs;
     first_or = (none i.found.0, record { preimage = p; is_preimage = i.found.1; has = record { m = m; root = root; is = sym e } });

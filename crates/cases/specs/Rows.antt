@@ -14,7 +14,7 @@
 --   CurveHolds               the verdict is the one that `recognise` promises, and the claims hold
 --   JoinsHold                the triples are all joins, and `joins` promises them in every area that has the room
 --   RowHolds, All            that a row holds, and all of a list
-use Rattle.std.specs.Prelude.{◌≡◌, false, List, [], ◌∷◌, ◌++◌, ℕ, suc, ◌-◌, ◌*◌, ◌≤◌, ℤ, pos, ◌*ℤ◌, length, replicate}
+use Rattle.std.specs.Prelude.{◌≡◌, Ok, false, List, [], ◌∷◌, ◌++◌, ℕ, suc, ◌-◌, ◌*◌, ◌≤◌, ℤ, pos, ◌*ℤ◌, length, replicate}
 use Rattle.pair.specs.declared.Pair.{Pair}
 use Rattle.bernstein.specs.Powers.{differences}
 use Rattle.curve.specs.declared.Curve.{Curve}
@@ -22,12 +22,8 @@ use Rattle.curve.specs.Curves.{points_of, leg_polynomial, norm_polynomial}
 use Rattle.verdict.specs.declared.Verdict.{Verdict}
 use Rattle.verdict.specs.Promise.{Recognised}
 use Rattle.measure.specs.declared.lengths.Length.{Length}
-use Rattle.measure.specs.declared.LengthAnswer.TheVariants as L
-use Rattle.measure.specs.declared.InflectionAnswer.TheVariants as I
 use Rattle.measure.specs.Promise.{Measured, Inflected}
-use Rattle.offset.specs.declared.OffsetAnswer.TheVariants.{Written}
 use Rattle.offset.specs.Promise.{point_numbers, offset_degree, needs, OffsetBy}
-use Rattle.join.specs.declared.JoinAnswer.TheVariants.{Listed}
 use Rattle.join.specs.Promise.{Triple, AllJoins, numbers, Joined}
 
 pub data Claim : Type 0 where
@@ -47,29 +43,29 @@ filled room answer = answer ++ replicate (room - length answer) (pos 0)
 
 pub record Long (curve : Curve) (whole : ℕ) : Type 0 where
   pub l : Length
-  pub measured : Measured curve (L.Found l)
+  pub measured : Measured curve (Ok l)
   pub is : l.c *ℤ (l.a *ℤ l.a) ≡ pos (whole * whole) *ℤ (l.b *ℤ l.b)
 
 abbrev pub Says : Curve → Claim → Type 0
 Says curve (legs_are ds) = differences (points_of curve) ≡ ds
 Says curve (N_is n) = norm_polynomial (leg_polynomial (points_of curve)) ≡ n
-Says curve (length_is c a b) = Measured curve (L.Found (record { c = c; a = a; b = b }))
+Says curve (length_is c a b) = Measured curve (Ok (record { c = c; a = a; b = b }))
 Says curve (long whole) = Long curve whole
-Says curve (turning_is t0 t1 t2 count) = Inflected curve (I.Found (record { turning = record { t0 = t0; t1 = t1; t2 = t2 }; count = count; straight = false }))
+Says curve (turning_is t0 t1 t2 count) = Inflected curve (Ok (record { turning = record { t0 = t0; t1 = t1; t2 = t2 }; count = count; straight = false }))
 Says curve (offset_is h w x y) =
-    (area : List ℤ) → needs curve ≤ length area → OffsetBy curve h area (filled (length area) (point_numbers (suc (offset_degree curve)) w x y)) (Written (needs curve))
+    (area : List ℤ) → needs curve ≤ length area → OffsetBy curve h area (filled (length area) (point_numbers (suc (offset_degree curve)) w x y)) (Ok (needs curve))
 
 abbrev pub SaysAll : Curve → List Claim → Type 0
 SaysAll curve [] = Unit {0}
 SaysAll curve (claim ∷ claims) = Says curve claim × SaysAll curve claims
 
 pub record CurveHolds (curve : Curve) (v : Verdict) (claims : List Claim) : Type 0 where
-  pub recognised : Recognised (points_of curve) v
+  pub recognised : Recognised (points_of curve) (Ok v)
   pub said : SaysAll curve claims
 
 pub record JoinsHold (a z T : Pair) (ws : List Triple) : Type 0 where
   pub all : AllJoins a z T ws
-  pub answer : (area : List ℤ) → 24 ≤ length area → Joined a z T area (filled (length area) (numbers ws)) (Listed (length ws))
+  pub answer : (area : List ℤ) → 24 ≤ length area → Joined a z T area (filled (length area) (numbers ws)) (Ok (length ws))
 
 abbrev pub RowHolds : Row → Type 0
 RowHolds (curve_is curve v claims) = CurveHolds curve v claims

@@ -11,7 +11,7 @@
 --   straight, minus_ones      the quintic (0,0)…(5,0), and the cubic with four points (−1,−1)
 --   sample, sample_text       the sheet of 01, "The report", of mission 7, and its three lines
 --   sheets                   the rows
-use Rattle.std.specs.Prelude.{◌≡◌, List, [], ◌∷◌, ◌++◌, ℕ, ◌/◌, ◌%◌, pos, replicate, take}
+use Rattle.std.specs.Prelude.{◌≡◌, Option, None, Some, Ok, Err, List, [], ◌∷◌, ◌++◌, ℕ, ◌/◌, ◌%◌, pos, replicate, take}
 use Prim.Native.String.{String}
 use Rattle.refusal.specs.declared.Refusal.{Refusal}
 use Rattle.refusal.specs.declared.Fault.{Fault}
@@ -20,18 +20,13 @@ use Rattle.pair.specs.Pairs.{pair}
 use Rattle.curve.specs.declared.Curve.{Curve}
 use Rattle.record.specs.Kinds.{record_of}
 use Rattle.record.specs.Records.{erased}
-use Rattle.sheet.specs.declared.Mission.{Mission}
-use Rattle.sheet.specs.declared.Mission.TheVariants.{None, Number}
-use Rattle.sheet.specs.declared.Checked.TheVariants as checked
-use Rattle.sheet.specs.declared.Reading.TheVariants as reading
-use Rattle.sheet.specs.declared.Change.TheVariants as change
 use Rattle.sheet.specs.Promise.{Checks, Reads, StartsFor, Appends}
 use Rattle.text.specs.Texts.{bytes}
 use Rattle.report_text.specs.Promise.{Report}
 use Rattle.cases.specs.Table.{neg, point, cubic, quintic, bend}
 
 pub data SheetRow : Type 0 where
-  has : List ℕ → Mission → (curves : ℕ) → SheetRow
+  has : List ℕ → Option ℕ → (curves : ℕ) → SheetRow
   refused_at : List ℕ → (number place : ℕ) → SheetRow
   started : List ℕ → (mission : ℕ) → List ℕ → SheetRow
   not_started : List ℕ → (mission number : ℕ) → SheetRow
@@ -43,12 +38,12 @@ abbrev pub Refuses : ℕ → ℕ → (Fault → Type 0) → Type 0
 Refuses number place P = (r : Refusal) × (number_of r ≡ number) × P (record { refusal = r; place = place })
 
 abbrev pub SheetHolds : SheetRow → Type 0
-SheetHolds (has s m n) = Checks s (checked.Sheet m n)
-SheetHolds (refused_at s number place) = Refuses number place (λ f. Checks s (checked.Refused f))
-SheetHolds (started s m t) = StartsFor s m t change.Done
-SheetHolds (not_started s m number) = Refuses number 0 (λ f. StartsFor s m s (change.Refused f))
-SheetHolds (not_appended s c number) = Refuses number 0 (λ f. Appends s c s (change.Refused f))
-SheetHolds (not_read s expected curve number) = Refuses number 0 (λ f. Reads s expected curve (reading.Refused f))
+SheetHolds (has s m n) = Checks s (Ok (record { mission = m; curves = n }))
+SheetHolds (refused_at s number place) = Refuses number place (λ f. Checks s (Err f))
+SheetHolds (started s m t) = StartsFor s m t (Ok tt)
+SheetHolds (not_started s m number) = Refuses number 0 (λ f. StartsFor s m s (Err f))
+SheetHolds (not_appended s c number) = Refuses number 0 (λ f. Appends s c s (Err f))
+SheetHolds (not_read s expected curve number) = Refuses number 0 (λ f. Reads s expected curve (Err f))
 SheetHolds (reported s text) = Report s (bytes text)
 
 abbrev pub AllHold : List SheetRow → Type 0
@@ -89,8 +84,8 @@ sheets =
     ∷ has (ff 4096) None 0
     ∷ refused_at (ff 4097) 1 0
     -- a header begins a sheet; FF in its number, and in coordinates, is no erasure
-    ∷ has (header 7 0) (Number 7) 0
-    ∷ has (header 255 255 ++ record_of minus_ones ++ ff 10) (Number 65535) 1
+    ∷ has (header 7 0) (Some 7) 0
+    ∷ has (header 255 255 ++ record_of minus_ones ++ ff 10) (Some 65535) 1
     -- KIND: no header, and a second one; an erased length instead of the header wants FF behind it
     ∷ refused_at (record_of bend) 4 0
     ∷ refused_at (first ++ header 7 0) 4 42
@@ -99,7 +94,7 @@ sheets =
     ∷ refused_at (head 7 "MN") 5 0
     ∷ refused_at (take 5 first) 2 0
     -- one byte left: FF ends the sheet, any other is CUT; two or three are CUT where they are no erased length, and so is a record that is longer than what is left
-    ∷ has (first ++ ff 1) (Number 7) 1
+    ∷ has (first ++ ff 1) (Some 7) 1
     ∷ refused_at (first ++ (0 ∷ [])) 2 42
     ∷ refused_at (first ++ (36 ∷ 0 ∷ 67 ∷ [])) 2 42
     ∷ refused_at (first ++ take 35 (record_of bend)) 2 42
@@ -109,7 +104,7 @@ sheets =
     ∷ refused_at (first ++ head 7 "C4") 4 42
     ∷ refused_at (first ++ head 52 "C3") 5 42
     -- a coordinate 20,000 is accepted, 20,001 is RANGE
-    ∷ has (first ++ record_of (bent 20000)) (Number 7) 2
+    ∷ has (first ++ record_of (bent 20000)) (Some 7) 2
     ∷ refused_at (first ++ record_of (bent 20001)) 6 42
     -- starting leaves nothing of an old sheet; under 6 bytes it is ROOM
     ∷ started first 300 (header 44 1 ++ ff 36)

@@ -1,8 +1,10 @@
 -- A built curve is recognised.
 --   built_recognised     the claim
-use mathlib.Core.Path.{refl, sym, ◌∙◌, subst}
+use mathlib.Core.Path.{◌≡◌, sym, ◌∙◌, subst}
 use mathlib.Core.List.{List, []}
 use mathlib.Core.Logic.{⊎_elim}
+use Rattle.std.specs.Prelude.{Result, Ok}
+use Rattle.refusal.specs.declared.Refusal.{Refusal}
 use Rattle.refusal.proofs.Laws.{NoneHolds, first-none}
 use Rattle.poly.specs.Polynomials.{Same, square}
 use Rattle.whole.proofs.Linear.{linear}
@@ -21,12 +23,11 @@ use Rattle.verdict.specs.Verdicts.{Generated, Still, Holds}
 use Rattle.verdict.proofs.Multiples.{generated-squared}
 use Rattle.verdict.proofs.Refusals.{recognised_holds}
 use Rattle.verdict.proofs.FoundSizes.{range_stable}
-use Rattle.build.specs.declared.BuildAnswer.TheVariants as answer
 use Rattle.build.specs.Promise.{Source, pairs_of, causes, Built}
 use Rattle.build.proofs.Legs.{outside, points-squared}
 use Rattle.claims.specs.Built.{PreOf, BuiltRecognised}
 
-module _ (p0 : Pair) (s : Source) (c : Curve) (h : Built p0 s (answer.Built c)) where
+module _ (p0 : Pair) (s : Source) (c : Curve) (h : Built p0 s (Ok c)) where
   abbrev W : List Pair
   W = power_form (pairs_of s)
 
@@ -50,12 +51,11 @@ module _ (p0 : Pair) (s : Source) (c : Curve) (h : Built p0 s (answer.Built c)) 
       zero : Same pairs W [] → ⊥
       zero y = none_holds.1.0 ((power_form-zero (pairs_of s)).0 y)
 
-  held : (v : Verdict) → Holds (leg_polynomial (points_of c)) v → PreOf v W
-  held verdict.Still z = absurd (moves z)
-  held verdict.No (m, n) = absurd (n (norm one) (norm_polynomial W) (omega linear) (generated-squared (leg_polynomial (points_of c)) one W generated))
-  held (verdict.Ph q) (m, t, n) = absurd (n one W generated)
-  held (verdict.Pre p) (m, k) = record { preimage = p; pre = refl; square_is = λ i. sym (k.generated i) ∙ D-squared i }
-  held (verdict.Refused r) x = absurd x
+  held : (r : Result Verdict Refusal) (v : Verdict) → r ≡ Ok v → Holds (leg_polynomial (points_of c)) v → PreOf r W
+  held r verdict.Still e z = absurd (moves z)
+  held r verdict.No e (m, n) = absurd (n (norm one) (norm_polynomial W) (omega linear) (generated-squared (leg_polynomial (points_of c)) one W generated))
+  held r (verdict.Ph q) e (m, t, n) = absurd (n one W generated)
+  held r (verdict.Pre p) e (m, k) = record { preimage = p; pre = e; square_is = λ i. sym (k.generated i) ∙ D-squared i }
 
 pub built_recognised : BuiltRecognised
-built_recognised p0 s c h v k = held p0 s c h v (recognised_holds (points_of c) (in_range_lem p0 s c h) v k)
+built_recognised p0 s c h r k = let (v, e, holds) = recognised_holds (points_of c) (in_range_lem p0 s c h) r k in held p0 s c h r v e holds

@@ -6,6 +6,7 @@ use mathlib.Core.List.{List, [], ◌∷◌}
 use mathlib.Core.Logic.{inl, inr}
 use native.Mathlib.Omega.{arith}
 use lib.IntN.{pos}
+use Rattle.std.specs.Prelude.{Result, Ok, Err}
 use Rattle.refusal.specs.declared.Refusal.{Refusal}
 use Rattle.refusal.specs.declared.Refusal.TheVariants as R
 use Rattle.refusal.specs.Table.{First, number_of}
@@ -16,8 +17,7 @@ use Rattle.pair.proofs.Laws.{multiple_cancel, plus-minus}
 use Rattle.pair.proofs.PairSolver.{the, ◌⊞◌, ◌⊟◌, ◌⊠◌, ◌··◌, nought, solve_pairs}
 use Rattle.divisor.proofs.Roots.{first_some}
 use Rattle.bernstein.specs.Powers.{differences}
-use Rattle.build.specs.declared.BuildAnswer.{BuildAnswer}
-use Rattle.build.specs.declared.BuildAnswer.TheVariants as answer
+use Rattle.curve.specs.declared.Curve.{Curve}
 use Rattle.build.specs.Promise.{Source, quintic, pairs_of, AreLegs, points, AllZero, causes, Built}
 use Rattle.build.proofs.Legs.{legs_once, third-found}
 use Rattle.join.specs.Promise.{Triple, QuinticLegs, LegsOf, Member, AllJoins}
@@ -84,11 +84,11 @@ module _ (a z T : Pair) (ws : List Triple) (all : AllJoins a z T ws) (w : Triple
   refused_range p0 r (inr (h, inr (k, inr (l, inl (n, e))))) = number_once r R.Range e
   refused_range p0 r (inr (h, inr (k, inr (l, inr (n, e))))) = absurd (number_some r e)
 
-  leading : (p0 : Pair) (r : BuildAnswer) → Built p0 s r → Leading a z T r
-  leading p0 (answer.Built c) (f, b) =
+  leading : (p0 : Pair) (r : Result Curve Refusal) → Built p0 s r → Leading a z T r
+  leading p0 (Ok c) (f, b) =
       subst (Leads a z T) (sym (b.by_legs ∙ ap (points p0) (legs_once s b.legs (leg_list d) b.are_legs are_legs)))
       (subst (λ X. X) (λ i. Leads (connects.first i) (connects.last i) (connects.travel i) (points p0 (leg_list d))) (points_lead p0 d))
-  leading p0 (answer.Refused r) (f, e) = refused_range p0 r f
+  leading p0 (Err r) (f, e) = refused_range p0 r f
 
 pub joins_lead : JoinsLead
 joins_lead a z T ws all w m w1 even p0 r = leading a z T ws all w m w1 even p0 r

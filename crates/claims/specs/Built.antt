@@ -1,7 +1,8 @@
 -- What is claimed of a built curve.
---   PreOf v W            the verdict v is *pre*, and its κ w² is the square of W
---   BuiltRecognised      so is the verdict on a built curve, with the polynomial that it was built from
-use Rattle.std.specs.Prelude.{◌≡◌, List}
+--   PreOf r W            the answer r is the verdict *pre*, and its κ w² is the square of W
+--   BuiltRecognised      so is what `recognise` answers on a built curve, with the polynomial that it was built from
+use Rattle.std.specs.Prelude.{◌≡◌, Result, Ok, List}
+use Rattle.refusal.specs.declared.Refusal.{Refusal}
 use Rattle.poly.specs.Polynomials.{Same, scaled, square}
 use Rattle.pair.specs.declared.Pair.{Pair}
 use Rattle.pair.specs.Pairs.{pairs}
@@ -13,14 +14,13 @@ use Rattle.verdict.specs.declared.Preimage.{Preimage}
 use Rattle.verdict.specs.declared.Verdict.{Verdict}
 use Rattle.verdict.specs.declared.Verdict.TheVariants as verdict
 use Rattle.verdict.specs.Promise.{Recognised}
-use Rattle.build.specs.declared.BuildAnswer.TheVariants as answer
 use Rattle.build.specs.Promise.{Source, pairs_of, Built}
 
-pub record PreOf (v : Verdict) (W : List Pair) : Type 0 where
+pub record PreOf (r : Result Verdict Refusal) (W : List Pair) : Type 0 where
   pub preimage : Preimage
-  pub pre : v ≡ verdict.Pre preimage
+  pub pre : r ≡ Ok (verdict.Pre preimage)
   pub square_is : Same pairs (scaled pairs preimage.kappa (square pairs (quadratic preimage.w))) (square pairs W)
 
 abbrev pub BuiltRecognised : Type 0
 BuiltRecognised =
-    (p0 : Pair) (s : Source) (c : Curve) → Built p0 s (answer.Built c) → (v : Verdict) → Recognised (points_of c) v → PreOf v (power_form (pairs_of s))
+    (p0 : Pair) (s : Source) (c : Curve) → Built p0 s (Ok c) → (r : Result Verdict Refusal) → Recognised (points_of c) r → PreOf r (power_form (pairs_of s))

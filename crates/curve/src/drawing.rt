@@ -7,48 +7,26 @@ ghost use Rattle.curve.specs.Curves.{points_of, InRange};
 ghost use Rattle.curve.specs.Steps.{legs_of, leg_powers, second_of};
 ghost use Rattle.curve.specs.Sizes.{leg_reach};
 
-use crate::{Cubic, Curve, LegPowers, Legs, Quintic};
-use pair::{Pair, difference, multiple};
-
-fn cubic_legs(c: Cubic) -> Legs
-    requires { InRange (points_of (Curve.Cubic c)) }
-    ensures { legs_of result ≡ differences (points_of (Curve.Cubic c)) }
-{
-    let p0 = c.p0;
-    let p1 = c.p1;
-    let p2 = c.p2;
-    let p3 = c.p3;
-    let d0 = difference(p1, p0);
-    let d1 = difference(p2, p1);
-    let d2 = difference(p3, p2);
-    Legs::Cubic(d0, d1, d2)
-}
-
-fn quintic_legs(c: Quintic) -> Legs
-    requires { InRange (points_of (Curve.Quintic c)) }
-    ensures { legs_of result ≡ differences (points_of (Curve.Quintic c)) }
-{
-    let p0 = c.p0;
-    let p1 = c.p1;
-    let p2 = c.p2;
-    let p3 = c.p3;
-    let p4 = c.p4;
-    let p5 = c.p5;
-    let d0 = difference(p1, p0);
-    let d1 = difference(p2, p1);
-    let d2 = difference(p3, p2);
-    let d3 = difference(p4, p3);
-    let d4 = difference(p5, p4);
-    Legs::Quintic(d0, d1, d2, d3, d4)
-}
+use crate::{Curve, LegPowers, Legs};
+use pair::{Pair, ZERO, difference, multiple};
 
 pub fn legs_of(curve: Curve) -> Legs
     requires { InRange (points_of curve) }
     ensures { legs_of result ≡ differences (points_of curve) }
 {
     match curve {
-        Curve::Cubic(c) => cubic_legs(c),
-        Curve::Quintic(c) => quintic_legs(c),
+        Curve::Cubic(c) => Legs::Cubic(
+            difference(c.p1, c.p0),
+            difference(c.p2, c.p1),
+            difference(c.p3, c.p2),
+        ),
+        Curve::Quintic(c) => Legs::Quintic(
+            difference(c.p1, c.p0),
+            difference(c.p2, c.p1),
+            difference(c.p3, c.p2),
+            difference(c.p4, c.p3),
+            difference(c.p5, c.p4),
+        ),
     }
 }
 
@@ -60,17 +38,17 @@ fn second(a: Pair, b: Pair, c: Pair) -> Pair
     difference(difference(c, b), difference(b, a))
 }
 
+// By hand: each degree writes its row of binomials out; one function over a slice of legs takes a table of differences and two loops.
 fn cubic_drawn(d0: Pair, d1: Pair, d2: Pair) -> LegPowers
     requires { AllWithin leg_reach (d0 ∷ d1 ∷ d2 ∷ []) }
     ensures { Same pairs (leg_powers result) (power_form (d0 ∷ d1 ∷ d2 ∷ [])) }
 {
-    let none = Pair { re: 0, im: 0 };
     LegPowers {
         e0: d0,
         e1: multiple(2, difference(d1, d0)),
         e2: second(d0, d1, d2),
-        e3: none,
-        e4: none,
+        e3: ZERO,
+        e4: ZERO,
     }
 }
 

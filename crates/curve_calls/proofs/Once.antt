@@ -7,18 +7,16 @@ use native.Mathlib.Omega.{arith}
 use lib.IntN.{ℤ}
 use lib.ListN.{length}
 use Rattle.refusal.specs.declared.Refusal.TheVariants as refusal
-use Rattle.refusal.specs.Answers.{refuse}
+use Rattle.refusal.specs.Answers.{answer_of, refuse}
 use Rattle.whole.specs.Coefficients.{at}
 use Rattle.pair.specs.declared.Pair.{Pair}
 use Rattle.pair.specs.Pairs.{pairs}
 use Rattle.curve.specs.Curves.{points_of}
 use Rattle.verdict.proofs.Once.{recognised_once}
 use Rattle.measure.proofs.Once.{measured_once, inflected_once}
-use Rattle.offset.specs.Promise.{answer_of_offset}
 use Rattle.offset.proofs.Once.{offset_once as offset_by_once}
 use Rattle.build.specs.Promise.{Source, cubic, quintic, pairs_of as built_from}
 use Rattle.build.proofs.Once.{built_once}
-use Rattle.join.specs.Promise.{answer_of_joins}
 use Rattle.join.proofs.Once.{joined_once}
 use Rattle.record.specs.Kinds.{numbers_of}
 use Rattle.hand.specs.Promise.{NoSource}
@@ -50,10 +48,10 @@ module _ (before : List ℤ) {x y : List ℤ} {r s : ℤ} where
   inflections_once p = on_curve_lem (hands_once before (refuse refusal.Length 0)) (λ c. handed_once before (inflected_once c))
 
   pub offset_once : (p : List ℤ) (h : ℤ) → OffsetCall p h before x r → OffsetCall p h before y s → (r ≡ s) × (x ≡ y)
-  offset_once p h = on_curve_lem (hands_once before (refuse refusal.Length 0)) (λ c. counted_once answer_of_offset (offset_by_once c h before x y))
+  offset_once p h = on_curve_lem (hands_once before (refuse refusal.Length 0)) (λ c. counted_once answer_of (offset_by_once c h before x y))
 
   pub build_once : (p0 : Pair) (w : List ℤ) → BuildCall p0 w before x r → BuildCall p0 w before y s → (r ≡ s) × (x ≡ y)
   build_once p0 w = on_source (hands_once before (refuse refusal.Length 0)) (λ t. handed_once before (built_once p0 t))
 
   pub joins_once : (a z T : Pair) → JoinCall a z T before x r → JoinCall a z T before y s → (r ≡ s) × (x ≡ y)
-  joins_once a z T = counted_once answer_of_joins (joined_once a z T before x y)
+  joins_once a z T = counted_once answer_of (joined_once a z T before x y)

@@ -17,7 +17,8 @@
 --   nearest_less, nearest-rest-within      so what it leaves over has a smaller norm than b, and is no larger
 --   back_sum               t + (a − t) = a
 --   root-within            the parts of a pair are at most the root of its norm
-use mathlib.Core.Path.{◌≡◌, refl, sym, ap, ◌∙◌}
+use Rattle.std.specs.Prelude.{Option, Some, None}
+use mathlib.Core.Path.{◌≡◌, sym, ap, ◌∙◌}
 use mathlib.Core.List.{[], ◌∷◌}
 use mathlib.Core.Logic.{◌≢◌, ◌↔◌, inl, inr}
 use Prim.Native.Nat.{ℕ, zero, suc, ◌+◌, ◌*◌, ◌≤◌, ◌<◌}
@@ -35,14 +36,13 @@ use Rattle.whole.proofs.Wholes.{readℤ, atomsℤ, ringℤ, equal_by, zero-equal
 use Rattle.whole.proofs.Linear.{linear, minus_parts, times_parts, abs_parts, one-part}
 use Rattle.whole.proofs.Bound.{abs_plus}
 use Rattle.whole.proofs.Division.{nearest_close}
+use Rattle.whole.proofs.Options.{option_once}
 use Rattle.whole.proofs.Division as whole
 use Rattle.poly.proofs.Domain.{times_cancel}
 use Rattle.pair.specs.declared.Pair.{Pair}
 use Rattle.pair.specs.Pairs.{pair, pairs, plus, minus, times, multiple, conjugate, norm, PartsWithin}
 use Rattle.pair.proofs.Parts.{pair-equal, re-equal, im-equal}
 use Rattle.pair.proofs.Laws.{times_comm, pairs_ring, pairs_domain, root_le, norm-size, norm_nonneg, norm-zero, norm_some}
-use Rattle.divisor.specs.declared.PairQuotient.{PairQuotient}
-use Rattle.divisor.specs.declared.PairQuotient.TheVariants.{Whole, None}
 use Rattle.divisor.specs.Promise.{IsPairQuotient, Undivided, IsOverWhole, NearestPair}
 
 -- ---- identities, for a = x + iy, b = u + iv and q = p + iq
@@ -132,23 +132,19 @@ pub undivided_none : (a : Pair) (n : ℤ) (q : Pair) → Undivided n a → multi
 undivided_none a n q (inl f) e = f (record { factor = q.re; is = re-equal e })
 undivided_none a n q (inr f) e = f (record { factor = q.im; is = im-equal e })
 
-pub over-whole_once : (a : Pair) (n : ℤ) → n ≢ pos 0 → (r s : PairQuotient) → IsOverWhole a n r → IsOverWhole a n s → r ≡ s
-over-whole_once a n h (Whole p) (Whole q) e f =
-    ap Whole (pair-equal (*ℤ-cancel n h (re-equal e ∙ sym (re-equal f))) (*ℤ-cancel n h (im-equal e ∙ sym (im-equal f))))
-over-whole_once a n h (Whole p) None e f = absurd (undivided_none a n p f e)
-over-whole_once a n h None (Whole q) e f = absurd (undivided_none a n q e f)
-over-whole_once a n h None None e f = refl
+pub over-whole_once : (a : Pair) (n : ℤ) → n ≢ pos 0 → (r s : Option Pair) → IsOverWhole a n r → IsOverWhole a n s → r ≡ s
+over-whole_once a n h =
+    option_once (IsOverWhole a n)
+    (λ p q e f. pair-equal (*ℤ-cancel n h (re-equal e ∙ sym (re-equal f))) (*ℤ-cancel n h (im-equal e ∙ sym (im-equal f))))
+    (λ q e none. undivided_none a n q none e)
 
 -- over |b|² is over b
-pub over-norm : (a b : Pair) → b ≢ pairs.none → (r : PairQuotient) → IsOverWhole (times a (conjugate b)) (norm b) r → IsPairQuotient a b r
-over-norm a b h (Whole q) e = over_divides a b q h (re-equal e) (im-equal e)
+pub over-norm : (a b : Pair) → b ≢ pairs.none → (r : Option Pair) → IsOverWhole (times a (conjugate b)) (norm b) r → IsPairQuotient a b r
+over-norm a b h (Some q) e = over_divides a b q h (re-equal e) (im-equal e)
 over-norm a b h None u = λ d. let (e, f) = divides_over a b d.factor d.is in undivided_none (times a (conjugate b)) (norm b) d.factor u (pair-equal e f)
 
-pub quotient_once : (a b : Pair) → b ≢ pairs.none → (r s : PairQuotient) → IsPairQuotient a b r → IsPairQuotient a b s → r ≡ s
-quotient_once a b h (Whole p) (Whole q) e f = ap Whole (share_once a b p q h e f)
-quotient_once a b h (Whole p) None e f = absurd (f (record { factor = p; is = e }))
-quotient_once a b h None (Whole q) e f = absurd (e (record { factor = q; is = f }))
-quotient_once a b h None None e f = refl
+pub quotient_once : (a b : Pair) → b ≢ pairs.none → (r s : Option Pair) → IsPairQuotient a b r → IsPairQuotient a b s → r ≡ s
+quotient_once a b h = option_once (IsPairQuotient a b) (λ p q. share_once a b p q h) (λ q e none. none (record { factor = q; is = e }))
 
 pub quotient-within : {B : ℕ} {a : Pair} (b q : Pair) → PartsWithin B a → b ≢ pairs.none → times b q ≡ a → PartsWithin B q
 quotient-within {B} {a} b q h n e =

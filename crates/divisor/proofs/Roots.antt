@@ -6,7 +6,8 @@
 --   kept_roots              two roots of one square, both with the sign that is kept, are equal
 --   pair-root-within        the size of a root
 --   root_once               the root of a pair has one answer
-use mathlib.Core.Path.{◌≡◌, refl, sym, ap, ap₂, ◌∙◌}
+use Rattle.std.specs.Prelude.{Option}
+use mathlib.Core.Path.{◌≡◌, sym, ap, ap₂, ◌∙◌}
 use mathlib.Core.Logic.{◌≢◌, ◌⊎◌, inl, inr, ⊎_elim}
 use Prim.Native.Nat.{ℕ, ◌+◌, ◌*◌, ◌≤◌}
 use native.Mathlib.Nat.{mul-le-mul}
@@ -14,6 +15,7 @@ use native.Mathlib.Omega.{arith}
 use lib.IntN.{pos, neg_ℤ, nat_abs, ◌*ℤ◌}
 use lib.Signed.{◌≤ℤ◌, ◌<ℤ◌}
 use Rattle.whole.specs.Number.{FirstPositive}
+use Rattle.whole.proofs.Options.{option_once}
 use Rattle.whole.proofs.Linear.{linear, negative_parts}
 use Rattle.whole.proofs.Order.{compare}
 use Rattle.whole.proofs.Signs.{negated_positive}
@@ -22,8 +24,6 @@ use Rattle.pair.specs.declared.Pair.{Pair}
 use Rattle.pair.specs.Pairs.{pairs, negative, times, norm, PartsWithin}
 use Rattle.pair.proofs.Parts.{pair-equal}
 use Rattle.pair.proofs.Laws.{pairs_ring, pairs_domain, negative-twice, norm-times, root_le, norm-size, pair-zero?}
-use Rattle.divisor.specs.declared.PairRoot.{PairRoot}
-use Rattle.divisor.specs.declared.PairRoot.TheVariants.{Root, None}
 use Rattle.divisor.specs.Promise.{KeptRoot, IsPairRoot}
 
 -- ---- one answer
@@ -72,11 +72,8 @@ kept_once {a} {b} h k = ⊎_elim (λ e. e) (λ e. opposite e (pair-zero? a)) (sq
     opposite e (yes z) = z ∙ sym (sym (negative-twice b) ∙ ap negative (sym e ∙ z))
     opposite e (no n) = absurd (not_both a b (h.sign n) (k.sign (λ z. n (e ∙ ap negative z))) e)
 
-pub root_once : (z : Pair) (r s : PairRoot) → IsPairRoot z r → IsPairRoot z s → r ≡ s
-root_once z (Root a) (Root b) h k = ap Root (kept_once h k)
-root_once z (Root a) None h k = absurd (k a h.squared)
-root_once z None (Root b) h k = absurd (h b k.squared)
-root_once z None None h k = refl
+pub root_once : (z : Pair) (r s : Option Pair) → IsPairRoot z r → IsPairRoot z s → r ≡ s
+root_once z = option_once (IsPairRoot z) (λ a b. kept_once) (λ a h none. none a h.squared)
 
 -- ---- the size: |w|⁴ is the sum of the squares of the parts of w²
 pub pair-root-within : {B : ℕ} (m n : ℕ) (z w : Pair) → PartsWithin B z → times w w ≡ z → B * B + B * B ≤ m * m → m ≤ n * n → PartsWithin n w

@@ -5,26 +5,22 @@
 --   NearestPair a b q  each part of q is the whole number nearest to that part of a / b, which is a conj(b) over |b|²; halves go down
 --   KeptRoot z w       w squares to z, and the first part of w that is not 0 is positive
 --   IsPairRoot         such a root, or that no pair squares to z
-use Rattle.std.specs.Prelude.{◌≡◌, ◌⊎◌, ◌≢◌, ℤ}
+use Rattle.std.specs.Prelude.{◌≡◌, ◌⊎◌, ◌≢◌, ℤ, Option, Some, None}
 use Rattle.whole.specs.Number.{wholes, FirstPositive}
 use Rattle.whole.specs.Coefficients.{Divides}
 use Rattle.whole.specs.Promise.{Nearest}
 use Rattle.pair.specs.declared.Pair.{Pair}
 use Rattle.pair.specs.Pairs.{pairs, times, multiple, conjugate, norm}
-use Rattle.divisor.specs.declared.PairQuotient.{PairQuotient}
-use Rattle.divisor.specs.declared.PairQuotient.TheVariants.{Whole, None}
-use Rattle.divisor.specs.declared.PairRoot.{PairRoot}
-use Rattle.divisor.specs.declared.PairRoot.TheVariants.{Root, None}
 
-abbrev pub IsPairQuotient : Pair → Pair → PairQuotient → Type 0
-IsPairQuotient a b (Whole q) = times b q ≡ a
+abbrev pub IsPairQuotient : Pair → Pair → Option Pair → Type 0
+IsPairQuotient a b (Some q) = times b q ≡ a
 IsPairQuotient a b None = Divides pairs b a → ⊥
 
 abbrev pub Undivided : ℤ → Pair → Type 0
 Undivided n a = (Divides wholes n a.re → ⊥) ⊎ (Divides wholes n a.im → ⊥)
 
-abbrev pub IsOverWhole : Pair → ℤ → PairQuotient → Type 0
-IsOverWhole a n (Whole q) = multiple n q ≡ a
+abbrev pub IsOverWhole : Pair → ℤ → Option Pair → Type 0
+IsOverWhole a n (Some q) = multiple n q ≡ a
 IsOverWhole a n None = Undivided n a
 
 pub record NearestPair (a b q : Pair) : Type 0 where
@@ -35,6 +31,6 @@ pub record KeptRoot (z w : Pair) : Type 0 where
   pub squared : times w w ≡ z
   pub sign : w ≢ pairs.none → FirstPositive w.re w.im
 
-abbrev pub IsPairRoot : Pair → PairRoot → Type 0
-IsPairRoot z (Root w) = KeptRoot z w
+abbrev pub IsPairRoot : Pair → Option Pair → Type 0
+IsPairRoot z (Some w) = KeptRoot z w
 IsPairRoot z None = (w : Pair) → times w w ≢ z

@@ -1,5 +1,7 @@
 // Quotients, greatest common divisors and square roots of pairs.
-// What is divided by has parts of at most 2^20 in size, and what is divided, of 2^40, so that the parts of a conj(b) fit.
+// What is divided by has parts of at most 2^20 in size, and what is divided, of 2^40, so that the parts of a conj(b) fit. This stands in the
+// contracts and not in a type of such divisions, which Euclid's loop would have to build anew at each step.
+// `as`: what is cast is at least 0 and below 2^63, as each contract shows; `try_from` would have an error that never comes.
 #![tactic(auto)]
 
 ghost use Rattle.std.specs.Prelude.{◌≡◌, ◌∷◌, [], ◌≢◌, ◌*◌, ◌^◌, pos, nat_abs, ◌≤ℤ◌, ◌<ℤ◌};
@@ -9,64 +11,41 @@ ghost use Rattle.pair.specs.Pairs.{pair, pairs, times, conjugate, norm, PartsWit
 ghost use Rattle.divisor.specs.Promise.{IsPairQuotient, IsOverWhole, NearestPair, IsPairRoot};
 ghost use Rattle.divisor.specs.Steps.{rounded as rounded_of, Near, Rest, HalfRoot, Candidate};
 
-use pair::{Pair, difference, equal, is_zero, norm, product};
-use whole::{ends_as_a_square, square_root};
+use pair::{Pair, difference, is_zero, norm, product};
+use whole::{exact_root, square_root};
 
 // 2^42, by way of which one division serves both parts of a quotient: n / d is near to n times SCALE / d, over SCALE.
-const SCALE: i64 = 4398046511104;
+const SCALE: i64 = 1 << 42;
 
-const HALF_SCALE: i64 = 2199023255552;
+const HALF_SCALE: i64 = 1 << 41;
 
 // 2^36: up to here |b|^2 is small enough for SCALE to tell a near quotient.
-const NEAR_NORM: i64 = 68719476736;
-
-// A quotient that has to be a pair.
-#[derive(Clone, Copy)]
-pub enum PairQuotient {
-    Whole(Pair),
-    None,
-}
-
-// A root that has to be a pair.
-#[derive(Clone, Copy)]
-pub enum PairRoot {
-    Root(Pair),
-    None,
-}
+const NEAR_NORM: i64 = 1 << 36;
 
 // a conj(b), whose parts over |b|² are those of a / b.
 fn numerator(a: Pair, b: Pair) -> Pair
     requires { PartsWithin (2 ^ 40) a × PartsWithin (2 ^ 20) b }
     ensures { result ≡ times a (conjugate b) }
 {
-    let x = a.re;
-    let y = a.im;
-    let u = b.re;
-    let v = b.im;
     Pair {
-        re: x * u + y * v,
-        im: y * u - x * v,
+        re: a.re * b.re + a.im * b.im,
+        im: a.im * b.re - a.re * b.im,
     }
 }
 
 // a / n where n divides both parts of a.
-pub fn over_whole(a: Pair, n: i64) -> PairQuotient
+pub fn over_whole(a: Pair, n: i64) -> Option<Pair>
     requires { pos 0 <ℤ n }
     ensures { IsOverWhole a n result }
 {
-    let x = a.re;
-    let y = a.im;
-    let whole::Exact::Whole(u) = whole::quotient(x, n) else {
-        return PairQuotient::None;
-    };
-    let whole::Exact::Whole(v) = whole::quotient(y, n) else {
-        return PairQuotient::None;
-    };
-    PairQuotient::Whole(Pair { re: u, im: v })
+    Some(Pair {
+        re: whole::quotient(a.re, n)?,
+        im: whole::quotient(a.im, n)?,
+    })
 }
 
 // a / b where b divides a.
-pub fn quotient(a: Pair, b: Pair) -> PairQuotient
+pub fn quotient(a: Pair, b: Pair) -> Option<Pair>
     requires { PartsWithin (2 ^ 40) a × PartsWithin (2 ^ 20) b × (b ≢ pairs.none) }
     ensures { IsPairQuotient a b result }
 {
@@ -80,11 +59,9 @@ pub fn share(a: Pair, b: Pair) -> Pair
 {
     let n = numerator(a, b);
     let r = SCALE / norm(b) + 1;
-    let x = n.re;
-    let y = n.im;
     Pair {
-        re: x * r / SCALE,
-        im: y * r / SCALE,
+        re: n.re * r / SCALE,
+        im: n.im * r / SCALE,
     }
 }
 
@@ -95,11 +72,9 @@ pub fn nearest(a: Pair, b: Pair) -> Pair
 {
     let n = numerator(a, b);
     let d = norm(b);
-    let x = n.re;
-    let y = n.im;
     Pair {
-        re: whole::nearest(x, d),
-        im: whole::nearest(y, d),
+        re: whole::nearest(n.re, d),
+        im: whole::nearest(n.im, d),
     }
 }
 
@@ -109,11 +84,9 @@ fn rounded(n: Pair, d: i64) -> Pair
     ensures { result ≡ pair (rounded_of n.re d) (rounded_of n.im d) }
 {
     let r = SCALE / d;
-    let x = n.re;
-    let y = n.im;
     Pair {
-        re: (x * r + HALF_SCALE) >> 42,
-        im: (y * r + HALF_SCALE) >> 42,
+        re: (n.re * r + HALF_SCALE) >> 42,
+        im: (n.im * r + HALF_SCALE) >> 42,
     }
 }
 
@@ -148,9 +121,7 @@ pub fn gcd(a: Pair, b: Pair) -> Pair
     let mut x = a;
     let mut y = b;
     while norm(y) != 0 {
-        let r = rest(x, y);
-        x = y;
-        y = r;
+        (x, y) = (y, rest(x, y));
     }
     x
 }
@@ -160,55 +131,37 @@ fn half_root(s: i64) -> i64
     requires { (pos 0 ≤ℤ s) × Within (2 ^ 32) s }
     ensures { HalfRoot s result }
 {
-    let half = square_root(s as u64 / 2);
-    half.root as i64
+    square_root(s as u64 / 2).root as i64
 }
 
-// A root of z, if it has one: a root u + iv has u² + v² = |z| = n, u² − v² = x and 2uv = y.
+// A root of z = x + iy, if it has one, where n is |z|: a root u + iv has u² + v² = n, u² − v² = x and 2uv = y.
 fn candidate(z: Pair, n: u64) -> Pair
     requires { PartsWithin (2 ^ 30) z × (pos (n * n) ≡ norm z) }
     ensures { Candidate z result }
 {
-    let x = z.re;
-    let y = z.im;
-    let m = n as i64;
-    let u = half_root(m + x);
-    if u == 0 {
-        Pair {
-            re: 0,
-            im: half_root(m - x),
-        }
+    let size = n as i64;
+    let re = half_root(size + z.re);
+    let im = if re == 0 {
+        half_root(size - z.re)
     } else {
-        Pair {
-            re: u,
-            im: y / (u * 2),
-        }
-    }
+        z.im / (re * 2)
+    };
+    Pair { re, im }
 }
 
 // w, if it is a root of z.
-fn kept(z: Pair, w: Pair) -> PairRoot
+fn kept(z: Pair, w: Pair) -> Option<Pair>
     requires { Candidate z w }
     ensures { IsPairRoot z result }
 {
-    if !equal(product(w, w), z) {
-        return PairRoot::None;
-    }
-    PairRoot::Root(w)
+    if product(w, w) == z { Some(w) } else { None }
 }
 
-// The square root of a pair. A square has a whole size |z|, so most pairs that are none are refused by the last digits of |z|², or by its root.
-pub fn root(z: Pair) -> PairRoot
+// The square root of a pair. A square has a whole size |z|, so most pairs that are none are refused by |z|².
+pub fn root(z: Pair) -> Option<Pair>
     requires { PartsWithin (2 ^ 30) z }
     ensures { IsPairRoot z result }
 {
-    let squared = norm(z) as u64;
-    if !ends_as_a_square(squared) {
-        return PairRoot::None;
-    }
-    let size = square_root(squared);
-    if size.rest != 0 {
-        return PairRoot::None;
-    }
-    kept(z, candidate(z, size.root))
+    let size = exact_root(norm(z) as u64)?;
+    kept(z, candidate(z, size))
 }

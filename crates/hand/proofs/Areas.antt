@@ -1,6 +1,5 @@
 -- Numbers handed over in a lent area, and numbers that a call is given.
 --   spelled, spelled-all   so many numbers of a list one by one, from a place on; all of them are the list
---   hands_refused      a refusal, from what clearing the area leaves
 --   hands_same         the same answer under another name, its number once it has been stored
 --   hands_short        values that do not fit are refused with ROOM
 --   hands_given        values that fit, from what they leave in the area
@@ -16,11 +15,9 @@ use mir.Syntax.{w64}
 use lib.Signed.{mag}
 use mir.Val.{to_z, of_z}
 use mir.ValLaws.{to_z-of_z}
-use Rattle.refusal.specs.declared.Fault.{Fault}
 use Rattle.refusal.specs.declared.Refusal.TheVariants as refusal
-use Rattle.area.specs.Area.{Cleared, Fills}
-use Rattle.area.proofs.Areas.{fills_none}
-use Rattle.refusal.specs.Answers.{Answer, refused, given, refuse, with_given, when◌then◌else◌}
+use Rattle.area.specs.Area.{Fills}
+use Rattle.refusal.specs.Answers.{Answer, given, refuse, with_given, when◌then◌else◌}
 use Rattle.area.specs.Promise.{values_of}
 use Rattle.hand.specs.Promise.{coded, fitted, Hands}
 
@@ -37,10 +34,6 @@ spelled-all zero [] e = refl
 spelled-all zero (x ∷ p) e = absurd (omega arith)
 spelled-all (suc n) [] e = absurd (omega arith)
 spelled-all (suc n) (x ∷ p) e = ap (λ (t : List ℤ). x ∷ t) (spelled_later n 0 x p ∙ spelled-all n p (omega arith))
-
-pub hands_refused : (f : Fault) {before after : List ℤ} {n : ℤ} → Cleared before after → length after ≡ length before → n ≡ coded (refused f)
-    → Hands (refused f) before after n
-hands_refused f {before} z l e = record { says = e; same_room = l; leaves = fills_none before z }
 
 fitted_short : (room : ℕ) (vs : List ℤ) → room < length vs → fitted room (given vs) ≡ refuse refusal.Room 0
 unfolding when◌then◌else◌

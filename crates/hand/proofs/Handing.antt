@@ -23,16 +23,15 @@ use Rattle.curve.specs.declared.Curve.TheVariants.{Cubic, Quintic}
 use Rattle.curve.specs.Curves.{points_of}
 use Rattle.curve.proofs.Points.{curve_once}
 use Rattle.record.specs.Kinds.{numbers_of}
-use Rattle.hand.specs.declared.Given.{Given}
-use Rattle.hand.specs.declared.Given.TheVariants as numbers
+use Rattle.std.specs.Prelude.{Option, None, Some}
 use Rattle.hand.specs.Promise.{coded, fitted, Hands, Handed, Counted, WrongCount, IsGiven, OnCurve}
 use Rattle.hand.proofs.Areas.{hands_same}
 
-module _ {p : List ℤ} {g : Given} {Wrong : Type 0} {Right : Curve → Type 0} (is-given : IsGiven p g) where
-  pub wrong-count : g ≡ numbers.WrongCount → Wrong → OnCurve p Wrong Right
+module _ {p : List ℤ} {g : Option Curve} {Wrong : Type 0} {Right : Curve → Type 0} (is-given : IsGiven p g) where
+  pub wrong-count : g ≡ None → Wrong → OnCurve p Wrong Right
   wrong-count e w = inl (subst (IsGiven p) e is-given, w)
 
-  pub right_count : (c : Curve) → g ≡ numbers.Curve c → Right c → OnCurve p Wrong Right
+  pub right_count : (c : Curve) → g ≡ Some c → Right c → OnCurve p Wrong Right
   right_count c e r = inr (c, subst (IsGiven p) e is-given, r)
 
 -- the answer under the name that the code's match has for it

@@ -7,7 +7,7 @@
 --   WrongCount, IsGiven what the numbers of a call give: a curve, or neither 8 nor 12 are there
 --   OnCurve             a call on the curve that its numbers give, and what it does where they give none
 --   NoSource, IsSource  what the numbers of a call give to build from: pairs, or neither 4 nor 6 are there
-use Rattle.std.specs.Prelude.{◌≡◌, List, [], ◌∷◌, ◌≢◌, ◌⊎◌, ℕ, ◌+◌, ◌*◌, ltb, ℤ, pos, neg_ℤ, length}
+use Rattle.std.specs.Prelude.{◌≡◌, Option, None, Some, List, [], ◌∷◌, ◌≢◌, ◌⊎◌, ℕ, ◌+◌, ◌*◌, ltb, ℤ, pos, neg_ℤ, length}
 use Rattle.refusal.specs.declared.Refusal.TheVariants as refusal
 use Rattle.refusal.specs.Table.{number_of}
 use Rattle.refusal.specs.Answers.{Answer, refused, given, refuse, then_given, with_given, when◌then◌else◌}
@@ -16,8 +16,6 @@ use Rattle.area.specs.Promise.{values_of}
 use Rattle.curve.specs.declared.Curve.{Curve}
 use Rattle.curve.specs.Curves.{points_of}
 use Rattle.record.specs.Kinds.{numbers_of}
-use Rattle.hand.specs.declared.Given.{Given}
-use Rattle.hand.specs.declared.Given.TheVariants as numbers
 use Rattle.hand.specs.declared.Source.{Source}
 use Rattle.hand.specs.declared.Source.TheVariants as source
 
@@ -44,9 +42,9 @@ Counted {R} Promised answer_of r = (a : R) × Promised a × (r ≡ coded (answer
 abbrev pub WrongCount : List ℤ → Type 0
 WrongCount p = (length p ≢ 8) × (length p ≢ 12)
 
-abbrev pub IsGiven : List ℤ → Given → Type 0
-IsGiven p (numbers.Curve c) = numbers_of (points_of c) ≡ p
-IsGiven p numbers.WrongCount = WrongCount p
+abbrev pub IsGiven : List ℤ → Option Curve → Type 0
+IsGiven p (Some c) = numbers_of (points_of c) ≡ p
+IsGiven p None = WrongCount p
 
 abbrev pub OnCurve : List ℤ → Type 0 → (Curve → Type 0) → Type 0
 OnCurve p Wrong Right = (WrongCount p × Wrong) ⊎ ((c : Curve) × (numbers_of (points_of c) ≡ p) × Right c)
@@ -54,7 +52,7 @@ OnCurve p Wrong Right = (WrongCount p × Wrong) ⊎ ((c : Curve) × (numbers_of 
 abbrev pub NoSource : List ℤ → Type 0
 NoSource w = (length w ≢ 4) × (length w ≢ 6)
 
-abbrev pub IsSource : List ℤ → Source → Type 0
-IsSource w (source.Cubic w0 w1) = numbers_of (w0 ∷ w1 ∷ []) ≡ w
-IsSource w (source.Quintic w0 w1 w2) = numbers_of (w0 ∷ w1 ∷ w2 ∷ []) ≡ w
-IsSource w source.WrongCount = NoSource w
+abbrev pub IsSource : List ℤ → Option Source → Type 0
+IsSource w (Some (source.Cubic w0 w1)) = numbers_of (w0 ∷ w1 ∷ []) ≡ w
+IsSource w (Some (source.Quintic w0 w1 w2)) = numbers_of (w0 ∷ w1 ∷ w2 ∷ []) ≡ w
+IsSource w None = NoSource w

@@ -1,41 +1,32 @@
 // How answers are handed over to C: as a count, or as minus a refusal's number and 32 times its place; the numbers in a lent area.
+// One number for an answer or its refusal is the interface for C: so each call ends in a match of a `Result`, by hand, and none in `?`.
 #![tactic(auto)]
 
-ghost use Rattle.std.specs.Prelude.{◌≡◌, ◌++◌, ◌+◌, ◌≤◌, pos, length, drop, get_or};
+ghost use Rattle.std.specs.Prelude.{◌≡◌, ◌+◌, ◌≤◌, pos, length, get_or};
 ghost use Rattle.refusal.specs.Answers.{refused as refused_with, given, refuse};
 ghost use Rattle.pair.specs.Pairs.{pair};
 ghost use Rattle.curve.specs.Curves.{points_of};
 ghost use Rattle.record.specs.Kinds.{numbers_of};
 ghost use Rattle.hand.specs.Promise.{coded as code_of, Hands, IsGiven, IsSource};
 
-use area::clear;
+use area::{clear, put};
 use curve::{Cubic, Curve, Quintic};
 use pair::Pair;
 use record::{cubic_numbers, quintic_numbers};
-use refusal::{Fault, Refusal, nowhere, number};
+use refusal::{Fault, Refusal, number};
 
-// What the numbers of a call give: 8 are a cubic's, 12 a quintic's.
-#[derive(Clone, Copy)]
-pub enum Given {
-    Curve(Curve),
-    WrongCount,
-}
-
-// What the numbers of a call give to build from: 4 are a cubic's w0 and w1, 6 a quintic's w0, w1 and w2.
-#[derive(Clone, Copy)]
+// What a curve is built from: a cubic from w0 and w1, a quintic from w0, w1 and w2.
+#[derive(Clone, Copy, Debug, PartialEq, Eq)]
 pub enum Source {
     Cubic(Pair, Pair),
     Quintic(Pair, Pair, Pair),
-    WrongCount,
 }
 
 // A fault as the number that is returned.
 pub fn coded(f: Fault) -> i64
     ensures { result ≡ code_of (refused_with f) }
 {
-    let refusal = f.refusal;
-    let n = number(refusal) as u64 + 32 * (f.place as u64);
-    -(n as i64)
+    -(i64::from(number(f.refusal)) + 32 * i64::from(f.place))
 }
 
 // After a refusal the area is all zero.
@@ -49,19 +40,7 @@ pub fn faulted(area: &mut [i64], f: Fault) -> i64
 pub fn refused(area: &mut [i64], r: Refusal) -> i64
     ensures { Hands (refuse r 0) area.old area.new result }
 {
-    faulted(area, nowhere(r))
-}
-
-// The values from the area's start; what stands behind them stays.
-pub fn put(area: &mut [i64], values: &[i64])
-    requires { length values.now ≤ length area.old }
-    ensures { area.new ≡ values.now ++ drop (length values.now) area.old }
-{
-    let mut i: usize = 0;
-    while i < values.len() {
-        area[i] = values[i];
-        i += 1;
-    }
+    faulted(area, r.into())
 }
 
 // The values from the area's start, and zeros behind them, if there is room.
@@ -74,22 +53,17 @@ pub fn hand(area: &mut [i64], values: &[i64]) -> i64
     }
     put(area, values);
     clear(&mut area[n..]);
+    // `as`: a length is below 2^63; `try_from` would have an error that never comes.
     n as i64
 }
 
-// A curve's coordinates.
+// A curve's coordinates. By hand an arm for each kind: the arrays are of two lengths.
 pub fn hand_curve(out: &mut [i64], curve: Curve) -> i64
     ensures { Hands (given (numbers_of (points_of curve))) out.old out.new result }
 {
     match curve {
-        Curve::Cubic(c) => {
-            let xs = cubic_numbers(c);
-            hand(out, &xs)
-        }
-        Curve::Quintic(c) => {
-            let xs = quintic_numbers(c);
-            hand(out, &xs)
-        }
+        Curve::Cubic(c) => hand(out, &cubic_numbers(c)),
+        Curve::Quintic(c) => hand(out, &quintic_numbers(c)),
     }
 }
 
@@ -104,40 +78,37 @@ fn pair_at(p: &[i64], at: usize) -> Pair
     }
 }
 
-// The curve that so many numbers give, x then y of each point.
-pub fn curve_in(p: &[i64]) -> Given
+// The curve that the numbers of a call give, x then y of each point: 8 give a cubic, 12 a quintic, and no other count gives one.
+// By hand: the points of a curve are fields with names, which no loop runs over.
+pub fn curve_in(p: &[i64]) -> Option<Curve>
     ensures { IsGiven p.now result }
 {
-    if p.len() == 8 {
-        return Given::Curve(Curve::Cubic(Cubic {
+    match p.len() {
+        8 => Some(Curve::Cubic(Cubic {
             p0: pair_at(p, 0),
             p1: pair_at(p, 2),
             p2: pair_at(p, 4),
             p3: pair_at(p, 6),
-        }));
-    }
-    if p.len() == 12 {
-        return Given::Curve(Curve::Quintic(Quintic {
+        })),
+        12 => Some(Curve::Quintic(Quintic {
             p0: pair_at(p, 0),
             p1: pair_at(p, 2),
             p2: pair_at(p, 4),
             p3: pair_at(p, 6),
             p4: pair_at(p, 8),
             p5: pair_at(p, 10),
-        }));
+        })),
+        _ => None,
     }
-    Given::WrongCount
 }
 
-// The pairs to build from that so many numbers give.
-pub fn source_in(w: &[i64]) -> Source
+// What the numbers of a call give to build from: 4 are a cubic's pairs, 6 a quintic's, and no other count gives any.
+pub fn source_in(w: &[i64]) -> Option<Source>
     ensures { IsSource w.now result }
 {
-    if w.len() == 4 {
-        return Source::Cubic(pair_at(w, 0), pair_at(w, 2));
+    match w.len() {
+        4 => Some(Source::Cubic(pair_at(w, 0), pair_at(w, 2))),
+        6 => Some(Source::Quintic(pair_at(w, 0), pair_at(w, 2), pair_at(w, 4))),
+        _ => None,
     }
-    if w.len() == 6 {
-        return Source::Quintic(pair_at(w, 0), pair_at(w, 2), pair_at(w, 4));
-    }
-    Source::WrongCount
 }

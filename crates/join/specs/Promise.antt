@@ -9,19 +9,17 @@
 --   numbers                      six numbers a triple, w0 first, real before imaginary
 --   travel_reach                  the parts of T: from −40,000 to 40,000
 --   EndsInRange, DeadEnd, causes  the causes of refusal, in the call's order
---   answer_of_joins                how many triples were written, or the refusal
---   Joined                       the promise of `joins`
-use Rattle.std.specs.Prelude.{◌≡◌, List, [], ◌∷◌, ◌⊎◌, ℕ, ◌<◌, ℤ, pos, length, ◌<ℤ◌}
+--   Joined                       the promise of `joins`: how many triples were written, or the refusal
+use Rattle.std.specs.Prelude.{◌≡◌, Result, List, [], ◌∷◌, ◌⊎◌, ℕ, ◌<◌, ℤ, pos, length, ◌<ℤ◌}
+use Rattle.refusal.specs.declared.Refusal.{Refusal}
 use Rattle.refusal.specs.declared.Refusal.TheVariants as R
 use Rattle.refusal.specs.Table.{Cause}
-use Rattle.refusal.specs.Answers.{Answer, refuse, given}
+use Rattle.refusal.specs.Answers.{answer_of}
 use Rattle.whole.specs.Number.{FirstPositive}
 use Rattle.area.specs.Promise.{FirstOrIn}
 use Rattle.pair.specs.declared.Pair.{Pair}
 use Rattle.pair.specs.Pairs.{pairs, plus, times, multiple, PartsWithin}
 use Rattle.curve.specs.Sizes.{coordinate_reach}
-use Rattle.join.specs.declared.JoinAnswer.{JoinAnswer}
-use Rattle.join.specs.declared.JoinAnswer.TheVariants as answers
 
 pub record Triple : Type 0 where
   pub w0 : Pair
@@ -111,9 +109,5 @@ causes a z T room =
     record { refusal = R.DeadEnd; holds = DeadEnd a z } ∷
     record { refusal = R.Room; holds = room < 24 } ∷ []
 
-abbrev pub answer_of_joins : JoinAnswer → Answer ℕ
-answer_of_joins (answers.Listed n) = given n
-answer_of_joins (answers.Refused r) = refuse r 0
-
-abbrev pub Joined : Pair → Pair → Pair → List ℤ → List ℤ → JoinAnswer → Type 0
-Joined a z T before after r = FirstOrIn (causes a z T (length before)) (AllJoins a z T) numbers length before after (answer_of_joins r)
+abbrev pub Joined : Pair → Pair → Pair → List ℤ → List ℤ → Result ℕ Refusal → Type 0
+Joined a z T before after r = FirstOrIn (causes a z T (length before)) (AllJoins a z T) numbers length before after (answer_of r)

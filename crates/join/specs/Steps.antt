@@ -11,9 +11,8 @@
 --   Ending w0 f r             the triples that end in −r or in r, centred by the discriminant with f
 --   root_reach                 200, which no part of a root of a or z exceeds
 --   MiddleSizes, CentreSizes, EndSizes     the sizes that the arithmetic meets: with a middle or its double, with a discriminant, with its fixed part
---   Begins ns area            an area begins with these numbers
---   WritesTriples n P …       the triples with P, at most n, are written at a place, behind what stood before it
-use Rattle.std.specs.Prelude.{◌≡◌, List, ◌++◌, ◌⊎◌, ℕ, ◌+◌, ◌*◌, ◌≤◌, ℤ, pos, length}
+--   WritesTriples n P …       the triples with P, at most n, are written from an area's start, so many numbers; what stood behind them stays
+use Rattle.std.specs.Prelude.{◌≡◌, List, ◌++◌, ◌⊎◌, ℕ, ◌*◌, ◌≤◌, ℤ, pos, length, drop}
 use Rattle.pair.specs.declared.Pair.{Pair}
 use Rattle.pair.specs.Pairs.{plus, minus, negative, times, multiple, PartsWithin}
 use Rattle.join.specs.Promise.{Triple, Lists, numbers}
@@ -72,13 +71,10 @@ pub record EndSizes (w0 f r : Pair) : Type 0 where
   pub fixed : PartsWithin 1560000 f
   pub last : PartsWithin root_reach r
 
-abbrev pub Begins : List ℤ → List ℤ → Type 0
-Begins ns area = (tail : List ℤ) × (area ≡ ns ++ tail)
-
-pub record WritesTriples (n : ℕ) (P : Triple → Type 0) (place : ℕ) (before after : List ℤ) (next : ℕ) : Type 0 where
+pub record WritesTriples (n : ℕ) (P : Triple → Type 0) (before after : List ℤ) (count : ℕ) : Type 0 where
   pub triples : List Triple
   pub lists : Lists P triples
   pub few : length triples ≤ n
   pub same_room : length after ≡ length before
-  pub next_is : next ≡ place + 6 * length triples
-  pub begins : (ns : List ℤ) → length ns ≡ place → Begins ns before → Begins (ns ++ numbers triples) after
+  pub count_is : count ≡ 6 * length triples
+  pub writes : after ≡ numbers triples ++ drop count before

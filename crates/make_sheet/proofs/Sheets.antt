@@ -1,5 +1,4 @@
 -- The sheet that is made.
---   next_once, not-wrong    a step goes on to one stage, and then names no line as wrong
 --   Holds            the area has the mission and the curves of the lines so far, and no fault
 --   holds            so it is behind every line
 --   size-within      the sheet is a part of the area
@@ -19,18 +18,14 @@ use Rattle.pair.specs.declared.Pair.{Pair}
 use Rattle.curve.specs.declared.Curve.{Curve}
 use Rattle.curve.specs.Curves.{points_of}
 use Rattle.record.specs.Records.{longest, erased, step_of}
-use Rattle.record.specs.declared.steps.Step.{Step}
-use Rattle.record.specs.declared.steps.Step.TheVariants as record_step
+use Rattle.std.specs.Prelude.{Some, None, Result, Ok, Err}
+use Rattle.refusal.specs.declared.Fault.{Fault}
 use Rattle.record.proofs.Shown.{ends_erased, erased_ends}
 use Rattle.record.proofs.Headers.{header-mission}
-use Rattle.sheet.specs.declared.Mission.TheVariants as mission
-use Rattle.sheet.specs.declared.walks.Ending.{Ending}
-use Rattle.sheet.specs.declared.walks.Ending.TheVariants.{Sound}
-use Rattle.sheet.specs.declared.Change.{Change}
-use Rattle.sheet.specs.declared.Change.TheVariants as change
-use Rattle.sheet.specs.Survey.{Survey, survey, soundly, curves, mission_of}
+use Rattle.sheet.specs.Survey.{Ending, Survey, survey, soundly, curves, mission_of}
 use Rattle.sheet.specs.Promise.{points_of_entry, curves_in, StartsFor, Appends}
 use Rattle.sheet.proofs.Surveys.{flat, Ended, first_after, survey_of_lem, short_of, sheet_parts, end-within}
+use Rattle.sheet.proofs.Appended.{ended}
 use Rattle.sheet.proofs.Changed.{appending-none}
 use Rattle.sheet.proofs.Kept.{append-kept, start-length}
 use Rattle.sheet.proofs.Laws.{append-listed, append-mission}
@@ -40,8 +35,8 @@ use Rattle.make_sheet.specs.declared.lines.Line.{Line}
 use Rattle.make_sheet.specs.declared.lines.Line.TheVariants as line
 use Rattle.make_sheet.specs.declared.making.Stage.{Stage}
 use Rattle.make_sheet.specs.declared.making.Stage.TheVariants as stage
-use Rattle.make_sheet.specs.declared.making.Step.{Step as Done_step}
-use Rattle.make_sheet.specs.declared.making.Step.TheVariants as step
+use Rattle.make_sheet.specs.declared.making.Stop.{Stop}
+use Rattle.make_sheet.proofs.Stages.{next_once, not-stopped}
 use Rattle.make_sheet.specs.Making.{afterwards, ending_at, Takes, SoFar, begun, and_then, size_in, missions_of, mission_among, curves_of, erased_of, SheetOf, MadeOf}
 
 -- ---- lines one after another
@@ -52,7 +47,6 @@ missions_append (line.Nothing ∷ ls) ks = missions_append ls ks
 missions_append (line.Mission number ∷ ls) ks = ap (λ (l : List ℕ). number ∷ l) (missions_append ls ks)
 missions_append (line.Curve c ∷ ls) ks = missions_append ls ks
 missions_append (line.Erased count ∷ ls) ks = missions_append ls ks
-missions_append (line.Wrong w ∷ ls) ks = missions_append ls ks
 
 curves-append : (ls ks : List Line) → curves_of (ls ++ ks) ≡ curves_of ls ++ curves_of ks
 curves-append [] ks = refl
@@ -60,7 +54,6 @@ curves-append (line.Nothing ∷ ls) ks = curves-append ls ks
 curves-append (line.Mission number ∷ ls) ks = curves-append ls ks
 curves-append (line.Curve c ∷ ls) ks = ap (λ (l : List (List Pair)). points_of c ∷ l) (curves-append ls ks)
 curves-append (line.Erased count ∷ ls) ks = curves-append ls ks
-curves-append (line.Wrong w ∷ ls) ks = curves-append ls ks
 
 erased-append : (ls ks : List Line) → erased_of (ls ++ ks) ≡ erased_of ls + erased_of ks
 erased-append [] ks = omega arith
@@ -68,18 +61,17 @@ erased-append (line.Nothing ∷ ls) ks = erased-append ls ks
 erased-append (line.Mission number ∷ ls) ks = erased-append ls ks
 erased-append (line.Curve c ∷ ls) ks = erased-append ls ks
 erased-append (line.Erased count ∷ ls) ks = omega (arith, erased-append ls ks)
-erased-append (line.Wrong w ∷ ls) ks = erased-append ls ks
 
 -- ---- the area behind some lines
 
 abbrev Stands : Stage → List ℕ → List ℕ → Type 0
 Stands stage.Blank s ms = ((survey s).records ≡ []) × (ms ≡ [])
-Stands stage.Started s ms = (m : ℕ) × (mission_of (survey s).records ≡ mission.Number m) × (ms ≡ m ∷ [])
+Stands stage.Started s ms = (m : ℕ) × (mission_of (survey s).records ≡ Some m) × (ms ≡ m ∷ [])
 Stands (stage.Ended size) s ms = mission_of (survey s).records ≡ mission_among ms
 
 pub record Holds (ls : List Line) (st : Stage) (s : List ℕ) : Type 0 where
   pub long : length s ≡ longest
-  pub sound : (survey s).ending ≡ Sound
+  pub sound : (survey s).ending ≡ Ok tt
   pub lists : curves_in s ≡ given (curves_of ls)
   pub stands : Stands st s (missions_of ls)
   pub size_is : size_in st s ≡ (survey s).end + erased_of ls
@@ -89,15 +81,6 @@ mission_stands : (st : Stage) (s ms : List ℕ) → Stands st s ms → mission_o
 mission_stands stage.Blank s ms h = ap mission_of h.0 ∙ sym (ap mission_among h.1)
 mission_stands stage.Started s ms h = h.1 ∙ sym (ap mission_among h.2)
 mission_stands (stage.Ended size) s ms h = h
-
-pub next_once : {a b : Stage} → step.Next a ≡ step.Next b → a ≡ b
-next_once e = cc
-
-not-refused : {A : Type 0} {a : Stage} {r : _} → step.Next a ≡ step.Refused r → A
-not-refused e = let z : ◌≡◌ {A = ℕ} 0 1 = cc in absurd (omega arith)
-
-pub not-wrong : {A : Type 0} {a : Stage} {w : _} → step.Next a ≡ step.Wrong w → A
-not-wrong e = let z : ◌≡◌ {A = ℕ} 0 1 = cc in absurd (omega arith)
 
 -- a line that changes neither the area nor what is said of it
 same_lines : (ls : List Line) (l : Line) → missions_of (l ∷ []) ≡ [] → curves_of (l ∷ []) ≡ [] →
@@ -113,12 +96,12 @@ unfolding curves_in
 lists_of s e = ap (λ (v : Survey). with_given (λ es. map points_of_entry (curves es)) (soundly v.ending v.records)) e
 
 module _ (ls : List Line) (s : List ℕ) where
-  passed : (st next : Stage) (t : List ℕ) → Holds ls st s → (t ≡ s) × (step.Next next ≡ step.Next st) → Holds (ls ++ (line.Nothing ∷ [])) next t
+  passed : (st next : Stage) (t : List ℕ) → Holds ls st s → (t ≡ s) × ◌≡◌ {A = Result Stage Stop} (Ok next) (Ok st) → Holds (ls ++ (line.Nothing ∷ [])) next t
   passed st next t h k =
       let same = same_lines ls line.Nothing refl refl in
       let none : erased_of (ls ++ (line.Nothing ∷ [])) ≡ erased_of ls = omega (arith, erased-append ls (line.Nothing ∷ [])) in
       subst (λ (u : List ℕ). Holds (ls ++ (line.Nothing ∷ [])) next u) (sym k.0)
-      (subst (λ (x : Stage). Holds (ls ++ (line.Nothing ∷ [])) x s) (sym (next_once k.1))
+      (subst (λ (x : Stage). Holds (ls ++ (line.Nothing ∷ [])) x s) (sym (next_once refl k.1))
       (record {
         long = h.long;
         sound = h.sound;
@@ -133,36 +116,36 @@ module _ (ls : List Line) (s : List ℕ) where
     no_curves : curves_of ls ≡ []
     no_curves = given_once (sym h.lists ∙ lists_of s refl ∙ (λ i. with_given (λ es. map points_of_entry (curves es)) (soundly (h.sound i) (h.stands.0 i))))
 
-    begins : (a : Change) → StartsFor s number t a → step.Next next ≡ afterwards a → Holds (ls ++ (line.Mission number ∷ [])) next t
+    begins : (a : Result (Unit {0}) Fault) → StartsFor s number t a → Ok next ≡ afterwards a → Holds (ls ++ (line.Mission number ∷ [])) next t
     unfolding when◌then◌else◌
-    begins (change.Refused f) g e = not-refused e
-    begins change.Done g e =
+    begins (Err f) g e = not-stopped refl e
+    begins (Ok done) g e =
         let v = start-listed s number t (sym g.says) in
         let lines = ls ++ (line.Mission number ∷ []) in
         let ms : missions_of lines ≡ number ∷ [] = missions_append ls (line.Mission number ∷ []) ∙ ap (λ (x : List ℕ). x ++ (number ∷ [])) h.stands.1 in
         let cs : curves_of lines ≡ [] = curves-append ls (line.Mission number ∷ []) ∙ append-nil (curves_of ls) ∙ no_curves in
-        let long : length t ≡ longest = start-length s number t change.Done g ∙ h.long in
+        let long : length t ≡ longest = start-length s number t (Ok done) g ∙ h.long in
         let none : erased_of lines ≡ 0 = omega (arith, erased-append ls (line.Mission number ∷ []), h.size_is) in
-        subst (λ (x : Stage). Holds lines x t) (sym (next_once e))
+        subst (λ (x : Stage). Holds lines x t) (sym (next_once refl e))
         (record {
           long = long;
           sound = ap (λ (v : Survey). v.ending) v;
           lists = lists_of t v ∙ ap given (sym cs);
-          stands = (number, ap (λ (v : Survey). mission_of v.records) v ∙ ap mission.Number (header-mission number), ms);
+          stands = (number, ap (λ (v : Survey). mission_of v.records) v ∙ ap Some (header-mission number), ms);
           size_is = omega (arith, none);
           fits = omega (arith, end-within true t, long);
         })
 
   -- one curve more
-  adds : (c : Curve) (next : Stage) (t : List ℕ) → Holds ls stage.Started s → (a : Change) → Appends s c t a → step.Next next ≡ afterwards a → Holds (ls ++ (line.Curve c ∷ [])) next t
-  adds c next t h (change.Refused f) g e = not-refused e
-  adds c next t h change.Done g e =
+  adds : (c : Curve) (next : Stage) (t : List ℕ) → Holds ls stage.Started s → (a : Result (Unit {0}) Fault) → Appends s c t a → Ok next ≡ afterwards a → Holds (ls ++ (line.Curve c ∷ [])) next t
+  adds c next t h (Err f) g e = not-stopped refl e
+  adds c next t h (Ok done) g e =
       let (m, own, ms) = h.stands in
       let lines = ls ++ (line.Curve c ∷ []) in
       let v = append-listed s h.sound own c t (sym g.changes.says) in
-      let long : length t ≡ longest = (append-kept s c t change.Done g).same_length ∙ h.long in
+      let long : length t ≡ longest = (append-kept s c t (Ok done) g).same_length ∙ h.long in
       let none : erased_of lines ≡ 0 = omega (arith, erased-append ls (line.Curve c ∷ []), h.size_is) in
-      subst (λ (x : Stage). Holds lines x t) (sym (next_once e))
+      subst (λ (x : Stage). Holds lines x t) (sym (next_once refl e))
       (record {
         long = long;
         sound = ap (λ (v : Survey). v.ending) v;
@@ -173,24 +156,24 @@ module _ (ls : List Line) (s : List ℕ) where
       })
 
   -- no curve on a sheet without a mission
-  refuses : (c : Curve) (next : Stage) (t : List ℕ) {A : Type 0} → Holds ls stage.Blank s → (a : Change) → Appends s c t a → step.Next next ≡ afterwards a → A
-  refuses c next t h (change.Refused f) g e = not-refused e
-  refuses c next t h change.Done g e = no_answer (g.changes.says ∙ appending-none s c h.sound (ap mission_of h.stands.0))
+  refuses : (c : Curve) (next : Stage) (t : List ℕ) {A : Type 0} → Holds ls stage.Blank s → (a : Result (Unit {0}) Fault) → Appends s c t a → Ok next ≡ afterwards a → A
+  refuses c next t h (Err f) g e = not-stopped refl e
+  refuses c next t h (Ok done) g e = no_answer (g.changes.says ∙ appending-none s c h.sound (ap mission_of h.stands.0))
 
   -- the end
-  ends : (st next : Stage) (count : ℕ) (t : List ℕ) → Holds ls st s → size_in st s ≡ (survey s).end → (t ≡ s) × (step.Next next ≡ ending_at (survey s).end count) → Holds (ls ++ (line.Erased count ∷ [])) next t
+  ends : (st next : Stage) (count : ℕ) (t : List ℕ) → Holds ls st s → size_in st s ≡ (survey s).end → (t ≡ s) × (Ok next ≡ ending_at (survey s).end count) → Holds (ls ++ (line.Erased count ∷ [])) next t
   unfolding ending_at
   ends st next count t h n k =
-      by_test (λ (x : Done_step). step.Next next ≡ x → Holds lines next t) _ (λ _ e. not-refused e)
+      by_test (λ (x : Result Stage Stop). Ok next ≡ x → Holds lines next t) _ (λ _ e. not-stopped refl e)
       (λ l e.
-      let size : size_in next s ≡ (survey s).end + count = ap (λ (x : Stage). size_in x s) (next_once e) in
+      let size : size_in next s ≡ (survey s).end + count = ap (λ (x : Stage). size_in x s) (next_once refl e) in
       let short : (survey s).end + count ≤ longest = ltb-false _ _ l in
       subst (λ (u : List ℕ). Holds lines next u) (sym k.0)
       (record {
         long = h.long;
         sound = h.sound;
         lists = h.lists ∙ ap given (sym same.1);
-        stands = subst (λ (x : Stage). Stands x s (missions_of lines)) (sym (next_once e)) (mission_stands st s (missions_of ls) h.stands ∙ ap mission_among (sym same.0));
+        stands = subst (λ (x : Stage). Stands x s (missions_of lines)) (sym (next_once refl e)) (mission_stands st s (missions_of ls) h.stands ∙ ap mission_among (sym same.0));
         size_is = omega (arith, size, n, h.size_is, erased-append ls (line.Erased count ∷ []));
         fits = omega (arith, size);
       }))
@@ -202,18 +185,17 @@ module _ (ls : List Line) (s : List ℕ) where
       same : (missions_of lines ≡ missions_of ls) × (curves_of lines ≡ curves_of ls)
       same = same_lines ls (line.Erased count) refl refl
 
-  taken : (st next : Stage) (l : Line) (t : List ℕ) → Holds ls st s → Takes st l s t (step.Next next) → Holds (ls ++ (l ∷ [])) next t
+  taken : (st next : Stage) (l : Line) (t : List ℕ) → Holds ls st s → Takes st l s t (Ok next) → Holds (ls ++ (l ∷ [])) next t
   taken st next line.Nothing t h k = passed st next t h k
   taken stage.Blank next (line.Mission number) t h (a, g, e) = begins number next t h a g e
-  taken stage.Started next (line.Mission number) t h k = not-wrong k.1
-  taken (stage.Ended size) next (line.Mission number) t h k = not-wrong k.1
+  taken stage.Started next (line.Mission number) t h k = not-stopped refl k.1
+  taken (stage.Ended size) next (line.Mission number) t h k = not-stopped refl k.1
   taken stage.Blank next (line.Curve c) t h (a, g, e) = refuses c next t h a g e
   taken stage.Started next (line.Curve c) t h (a, g, e) = adds c next t h a g e
-  taken (stage.Ended size) next (line.Curve c) t h k = not-wrong k.1
+  taken (stage.Ended size) next (line.Curve c) t h k = not-stopped refl k.1
   taken stage.Blank next (line.Erased count) t h k = ends stage.Blank next count t h refl k
   taken stage.Started next (line.Erased count) t h k = ends stage.Started next count t h refl k
-  taken (stage.Ended size) next (line.Erased count) t h k = not-wrong k.1
-  taken st next (line.Wrong w) t h k = not-wrong k.1
+  taken (stage.Ended size) next (line.Erased count) t h k = not-stopped refl k.1
 
 pub holds : {ls : List Line} {st : Stage} {s : List ℕ} → SoFar ls st s → Holds ls st s
 holds begun =
@@ -233,19 +215,14 @@ size-within text area size m = let h = holds m.made in omega (arith, m.size_is, 
 
 -- ---- the sheet
 
-ended : (at : ℕ) (x : Step) → Ended at x Sound → x ≡ record_step.Ends
-ended at record_step.Ends e = refl
-ended at (record_step.Fault r offset) e = let z : ◌≡◌ {A = ℕ} 0 1 = cc in absurd (omega arith)
-ended at (record_step.Record k) e = absurd e
-
-pub cut_sheet : (s : List ℕ) (size : ℕ) → (survey s).ending ≡ Sound → (survey s).end ≤ size → size ≤ length s → survey (take size s) ≡ survey s
+pub cut_sheet : (s : List ℕ) (size : ℕ) → (survey s).ending ≡ Ok tt → (survey s).end ≤ size → size ≤ length s → survey (take size s) ≡ survey s
 cut_sheet s size sound l m =
     let short = short_of s sound in
     let p = sheet_parts true s short in
     let es = (survey s).records in
     let first = first_after true es in
     let end : (survey s).end ≡ length (flat es) = p.end_is ∙ omega arith in
-    let last : step_of first p.tail ≡ record_step.Ends = ended (survey s).end (step_of first p.tail) (subst (λ (how : Ending). Ended (survey s).end (step_of first p.tail) how) sound p.last) in
+    let last : step_of first p.tail ≡ Ok None = ended (survey s).end (step_of first p.tail) (subst (λ (how : Ending). Ended (survey s).end (step_of first p.tail) how) sound p.last) in
     let rest = size - length (flat es) in
     let there : size ≡ length (flat es) + rest = omega arith in
     let long : length (take rest p.tail) ≤ length p.tail = omega (arith, length-take rest p.tail) in

@@ -1,3 +1,4 @@
 -- The definitions that the contracts cite.
 pub mod Sayings
 pub mod Making
+pub mod Steps

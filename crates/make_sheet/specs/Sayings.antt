@@ -1,34 +1,37 @@
 -- What a line of the text says.
 --   mission_word, erased_word, cubic_word, quintic_word, curve_word   the words that lines begin with
---   Means        what some words mean; a wrong line is meant by none
+--   Means        what some words mean
 --   NoLine       words that mean no line
 --   ReadAs       some words as a line: what they mean, or that it is wrong, for they mean no line
 --   MeansIn      a text without a comment as a line
 --   Says         what a line says: a comment is passed over
 --   AllSay       what some lines say, one by one
+--   line_in, place_in     what a text says, without the place of what says it, and that place
 --   WordsSay, LineSays    a text without a comment, and a line, with the place of what says it
---   NumbersIn    what was taken of a line's numbers: the words from a place on are just these, or no such number of numbers
---   NotSoMany, NoAmount, NoCurve    the words from a place on are no such numbers
+--   NumbersIn    what was taken of a text's numbers: its words are just these, or no such number of numbers
+--   NotSoMany, NoAmount, NoCurve    the words of a text are no such numbers
 --   AmountIn     the same of one number that counts something, up to a bound
---   MeansBehind, SaysBehind    what stands behind a word, from a place on
+--   MeansBehind, SaysBehind    what stands behind a word
 --   IsCurve, CurveBehind       the same of a curve of so many numbers
---   Named        the word of a form; what is unknown is none of the words
+--   word_of, Named       the word of a form; what names no form is none of the words
+--   why_of       what is wrong with a word that is no number
 -- A line that is called wrong is wrong: its words mean no line. Which sentence is said of it, and at which column, is open.
-use Rattle.std.specs.Prelude.{◌≡◌, List, [], ◌∷◌, ℕ, ◌≤◌, ℤ, pos, length, drop}
+use Rattle.std.specs.Prelude.{◌≡◌, List, [], ◌∷◌, ℕ, ◌≤◌, ℤ, pos, length, Option, Some, None, Result, Ok, Err, IfErr}
 use Rattle.curve.specs.declared.Curve.{Curve}
 use Rattle.curve.specs.Curves.{points_of}
 use Rattle.record.specs.declared.kinds.Kind.TheVariants.{Cubic, Quintic}
 use Rattle.record.specs.Kinds.{row_of, kind_of, numbers_of}
+use Rattle.reading.specs.declared.numbers.NoNumber.{NoNumber}
+use Rattle.reading.specs.declared.numbers.NoNumber.TheVariants as none
 use Rattle.reading.specs.Texts.{Until, Words, Numbers}
-use Rattle.make_sheet.specs.declared.lines.Amount.{Amount}
-use Rattle.make_sheet.specs.declared.lines.Amount.TheVariants as amount
 use Rattle.make_sheet.specs.declared.lines.Form.{Form}
 use Rattle.make_sheet.specs.declared.lines.Form.TheVariants as form
 use Rattle.make_sheet.specs.declared.lines.Line.{Line}
 use Rattle.make_sheet.specs.declared.lines.Line.TheVariants as line
 use Rattle.make_sheet.specs.declared.lines.Said.{Said}
-use Rattle.make_sheet.specs.declared.lines.Taken.{Taken}
-use Rattle.make_sheet.specs.declared.lines.Taken.TheVariants as taken
+use Rattle.make_sheet.specs.declared.lines.Why.{Why}
+use Rattle.make_sheet.specs.declared.lines.Why.TheVariants as why
+use Rattle.make_sheet.specs.declared.lines.Wrong.{Wrong}
 
 -- b"mission"
 abbrev pub mission_word : List ℕ
@@ -53,85 +56,96 @@ Means ws line.Nothing = ws ≡ []
 Means ws (line.Mission number) = (vs : List (List ℕ)) × (ws ≡ mission_word ∷ vs) × Numbers vs (pos number ∷ []) × (number ≤ 65535)
 Means ws (line.Curve c) = (vs : List (List ℕ)) × (ws ≡ curve_word c ∷ vs) × Numbers vs (numbers_of (points_of c))
 Means ws (line.Erased count) = (vs : List (List ℕ)) × (ws ≡ erased_word ∷ vs) × Numbers vs (pos count ∷ [])
-Means ws (line.Wrong why) = ⊥
 
 abbrev pub NoLine : List (List ℕ) → Type 0
 NoLine ws = (l : Line) → Means ws l → ⊥
 
-abbrev pub ReadAs : List (List ℕ) → Line → Type 0
-ReadAs ws line.Nothing = Means ws line.Nothing
-ReadAs ws (line.Mission number) = Means ws (line.Mission number)
-ReadAs ws (line.Curve c) = Means ws (line.Curve c)
-ReadAs ws (line.Erased count) = Means ws (line.Erased count)
-ReadAs ws (line.Wrong why) = NoLine ws
+abbrev pub ReadAs : List (List ℕ) → Result Line Wrong → Type 0
+ReadAs ws (Ok l) = Means ws l
+ReadAs ws (Err w) = NoLine ws
 
-abbrev pub MeansIn : List ℕ → Line → Type 0
-MeansIn text l = (ws : List (List ℕ)) × Words text ws × ReadAs ws l
+abbrev pub MeansIn : List ℕ → Result Line Wrong → Type 0
+MeansIn text r = (ws : List (List ℕ)) × Words text ws × ReadAs ws r
 
 -- '#' is 35
 abbrev pub Sharp : ℕ → Type 0
 Sharp b = b ≡ 35
 
-abbrev pub Says : List ℕ → Line → Type 0
-Says text l = (said : List ℕ) × Until Sharp text said × MeansIn said l
+abbrev pub Says : List ℕ → Result Line Wrong → Type 0
+Says text r = (said : List ℕ) × Until Sharp text said × MeansIn said r
 
 abbrev pub AllSay : List (List ℕ) → List Line → Type 0
 AllSay [] [] = Unit {0}
 AllSay [] (l ∷ ls) = ⊥
 AllSay (text ∷ texts) [] = ⊥
-AllSay (text ∷ texts) (l ∷ ls) = Says text l × AllSay texts ls
+AllSay (text ∷ texts) (l ∷ ls) = Says text (Ok l) × AllSay texts ls
 
-pub record WordsSay (text : List ℕ) (x : Said) : Type 0 where
-  pub place_within : x.place ≤ length text
-  pub means : MeansIn text x.line
+abbrev pub line_in : Result Said Wrong → Result Line Wrong
+line_in (Ok s) = Ok s.line
+line_in (Err w) = Err w
 
-pub record LineSays (text : List ℕ) (x : Said) : Type 0 where
-  pub place_within : x.place ≤ length text
-  pub says : Says text x.line
+abbrev pub place_in : Result Said Wrong → ℕ
+place_in (Ok s) = s.place
+place_in (Err w) = w.place
 
--- the words from a place on are not so many numbers
-abbrev pub NotSoMany : List ℕ → ℕ → ℕ → Type 0
-NotSoMany text from room = (vs : List (List ℕ)) × Words (drop from text) vs × ((xs : List ℤ) → length xs ≡ room → Numbers vs xs → ⊥)
+pub record WordsSay (text : List ℕ) (r : Result Said Wrong) : Type 0 where
+  pub place_within : place_in r ≤ length text
+  pub means : MeansIn text (line_in r)
 
-abbrev pub NumbersIn : List ℕ → ℕ → List ℤ → Taken → Type 0
-NumbersIn text from xs taken.All = (vs : List (List ℕ)) × Words (drop from text) vs × Numbers vs xs
-NumbersIn text from xs (taken.Wrong why place) = (place ≤ length text) × NotSoMany text from (length xs)
+pub record LineSays (text : List ℕ) (r : Result Said Wrong) : Type 0 where
+  pub place_within : place_in r ≤ length text
+  pub says : Says text (line_in r)
 
--- the words from a place on are not one number from 0 up to a bound
-abbrev pub NoAmount : List ℕ → ℕ → ℕ → Type 0
-NoAmount text from most = (vs : List (List ℕ)) × Words (drop from text) vs × ((n : ℕ) → n ≤ most → Numbers vs (pos n ∷ []) → ⊥)
+-- the words of a text are not so many numbers
+abbrev pub NotSoMany : List ℕ → ℕ → Type 0
+NotSoMany text room = (vs : List (List ℕ)) × Words text vs × ((xs : List ℤ) → length xs ≡ room → Numbers vs xs → ⊥)
 
-abbrev pub AmountIn : List ℕ → ℕ → ℕ → Amount → Type 0
-AmountIn text from most (amount.Of n) = (vs : List (List ℕ)) × Words (drop from text) vs × Numbers vs (pos n ∷ []) × (n ≤ most)
-AmountIn text from most (amount.Wrong why place) = (place ≤ length text) × NoAmount text from most
+abbrev pub NumbersIn : List ℕ → List ℤ → Result (Unit {0}) Wrong → Type 0
+NumbersIn text xs (Ok u) = (vs : List (List ℕ)) × Words text vs × Numbers vs xs
+NumbersIn text xs (Err w) = (w.place ≤ length text) × NotSoMany text (length xs)
 
--- behind a word, from a place on
-abbrev pub MeansBehind : List ℕ → List ℕ → ℕ → Line → Type 0
-MeansBehind word text from l = (vs : List (List ℕ)) × Words (drop from text) vs × ReadAs (word ∷ vs) l
+-- the words of a text are not one number from 0 up to a bound
+abbrev pub NoAmount : List ℕ → ℕ → Type 0
+NoAmount text most = (vs : List (List ℕ)) × Words text vs × ((n : ℕ) → n ≤ most → Numbers vs (pos n ∷ []) → ⊥)
 
-pub record SaysBehind (word text : List ℕ) (from : ℕ) (x : Said) : Type 0 where
-  pub place_within : x.place ≤ length text
-  pub means : MeansBehind word text from x.line
+abbrev pub AmountIn : List ℕ → ℕ → Result ℕ Wrong → Type 0
+AmountIn text most (Ok n) = (vs : List (List ℕ)) × Words text vs × Numbers vs (pos n ∷ []) × (n ≤ most)
+AmountIn text most (Err w) = (w.place ≤ length text) × NoAmount text most
 
--- the words from a place on are no curve of so many numbers
-abbrev pub NoCurve : List ℕ → ℕ → ℕ → Type 0
-NoCurve text from room =
-    (vs : List (List ℕ)) × Words (drop from text) vs × ((c : Curve) → length (numbers_of (points_of c)) ≡ room → Numbers vs (numbers_of (points_of c)) → ⊥)
+-- behind a word
+abbrev pub MeansBehind : List ℕ → List ℕ → Result Line Wrong → Type 0
+MeansBehind word text r = (vs : List (List ℕ)) × Words text vs × ReadAs (word ∷ vs) r
 
-abbrev pub IsCurve : List ℕ → ℕ → ℕ → Line → Type 0
-IsCurve text from room line.Nothing = ⊥
-IsCurve text from room (line.Mission number) = ⊥
-IsCurve text from room (line.Curve c) = (vs : List (List ℕ)) × Words (drop from text) vs × Numbers vs (numbers_of (points_of c)) × (length (numbers_of (points_of c)) ≡ room)
-IsCurve text from room (line.Erased count) = ⊥
-IsCurve text from room (line.Wrong why) = NoCurve text from room
+pub record SaysBehind (word text : List ℕ) (r : Result Line Wrong) : Type 0 where
+  pub place_within : IfErr r (λ w. w.place ≤ length text)
+  pub means : MeansBehind word text r
 
-pub record CurveBehind (text : List ℕ) (from room : ℕ) (x : Said) : Type 0 where
-  pub place_within : x.place ≤ length text
-  pub curve : IsCurve text from room x.line
+-- the words of a text are no curve of so many numbers
+abbrev pub NoCurve : List ℕ → ℕ → Type 0
+NoCurve text room =
+    (vs : List (List ℕ)) × Words text vs × ((c : Curve) → length (numbers_of (points_of c)) ≡ room → Numbers vs (numbers_of (points_of c)) → ⊥)
 
-abbrev pub Named : Form → List ℕ → Type 0
-Named form.Mission word = word ≡ mission_word
-Named form.Cubic word = word ≡ cubic_word
-Named form.Quintic word = word ≡ quintic_word
-Named form.Erased word = word ≡ erased_word
-Named form.Unknown word = (word ≡ mission_word → ⊥) × (word ≡ cubic_word → ⊥) × (word ≡ quintic_word → ⊥) × (word ≡ erased_word → ⊥)
+abbrev pub IsCurve : List ℕ → ℕ → Result Line Wrong → Type 0
+IsCurve text room (Ok line.Nothing) = ⊥
+IsCurve text room (Ok (line.Mission number)) = ⊥
+IsCurve text room (Ok (line.Curve c)) = (vs : List (List ℕ)) × Words text vs × Numbers vs (numbers_of (points_of c)) × (length (numbers_of (points_of c)) ≡ room)
+IsCurve text room (Ok (line.Erased count)) = ⊥
+IsCurve text room (Err w) = NoCurve text room
+
+pub record CurveBehind (text : List ℕ) (room : ℕ) (r : Result Line Wrong) : Type 0 where
+  pub place_within : IfErr r (λ w. w.place ≤ length text)
+  pub curve : IsCurve text room r
+
+abbrev pub word_of : Form → List ℕ
+word_of form.Mission = mission_word
+word_of form.Cubic = cubic_word
+word_of form.Quintic = quintic_word
+word_of form.Erased = erased_word
+
+abbrev pub Named : Option Form → List ℕ → Type 0
+Named (Some f) word = word ≡ word_of f
+Named None word = (f : Form) → word ≡ word_of f → ⊥
+
+abbrev pub why_of : NoNumber → Why
+why_of none.TooLarge = why.TooLarge
+why_of none.None = why.NoNumber

@@ -1,24 +1,22 @@
 // What a line of the text says.
 ghost use Rattle.std.specs.Prelude.{◌≡◌, ◌≤◌, length};
-ghost use Rattle.make_sheet.specs.declared.lines.Line.TheVariants.{Wrong};
-ghost use Rattle.make_sheet.specs.Sayings.{mission_word, erased_word, cubic_word, quintic_word, Named, NumbersIn, AmountIn, SaysBehind, CurveBehind, WordsSay, LineSays};
+ghost use Rattle.make_sheet.specs.Sayings.{word_of, Named, NumbersIn, AmountIn, SaysBehind, CurveBehind, WordsSay, LineSays, why_of};
 
 use curve::Curve;
-use hand::{Given, curve_in};
-use reading::{Number, Sought, find, number_in, same};
+use hand::curve_in;
+use reading::{NoNumber, Sought, Word, Words, find, number_in};
 
 // The lines that there are, by their first words.
-#[derive(Clone, Copy)]
+#[derive(Clone, Copy, Debug, PartialEq, Eq)]
 pub enum Form {
     Mission,
     Cubic,
     Quintic,
     Erased,
-    Unknown,
 }
 
 // What stands wrong in a line.
-#[derive(Clone, Copy)]
+#[derive(Clone, Copy, Debug, PartialEq, Eq)]
 pub enum Why {
     Word,
     NoNumber,
@@ -31,203 +29,154 @@ pub enum Why {
     BehindErased,
 }
 
+// What is wrong, and at which place of the text.
+#[derive(Clone, Copy, Debug, PartialEq, Eq)]
+pub struct Wrong {
+    pub why: Why,
+    pub place: usize,
+}
+
+impl Why {
+    fn at(self, place: usize) -> Wrong
+        ensures why { result.why ≡ self }
+        ensures place { result.place ≡ place }
+    {
+        Wrong { why: self, place }
+    }
+}
+
+impl From<NoNumber> for Why {
+    ghost from_gives = { λ no why. why ≡ why_of no };
+
+    fn from(no: NoNumber) -> Why {
+        match no {
+            NoNumber::TooLarge => Why::TooLarge,
+            NoNumber::None => Why::NoNumber,
+        }
+    }
+}
+
 // What a line says.
-#[derive(Clone, Copy)]
+#[derive(Clone, Copy, Debug, PartialEq, Eq)]
 pub enum Line {
     Nothing,
     Mission(u16),
     Curve(Curve),
     Erased(usize),
-    Wrong(Why),
 }
 
-// What a line says, and the place of what says it: the first word, or what is wrong.
-#[derive(Clone, Copy)]
+// What a line says, and the place of the first word, which says it.
+#[derive(Clone, Copy, Debug, PartialEq, Eq)]
 pub struct Said {
     pub line: Line,
     pub place: usize,
 }
 
-// How the numbers of a line were taken: all that there is room for, or what is wrong and where.
-#[derive(Clone, Copy)]
-enum Taken {
-    All,
-    Wrong(Why, usize),
-}
-
-// A number that counts something, or what is wrong and where.
-#[derive(Clone, Copy)]
-enum Amount {
-    Of(usize),
-    Wrong(Why, usize),
-}
-
-fn form_of(word: &[u8]) -> Form
+// By comparison, not by a match on byte strings: that leaves a goal for each byte that may differ, 37 of them, and is no plainer.
+fn form_of(word: &[u8]) -> Option<Form>
     ensures { Named result word.now }
 {
-    if same(word, b"mission") {
-        return Form::Mission;
+    if word == b"mission".as_slice() {
+        Some(Form::Mission)
+    } else if word == b"C3".as_slice() {
+        Some(Form::Cubic)
+    } else if word == b"C5".as_slice() {
+        Some(Form::Quintic)
+    } else if word == b"erased".as_slice() {
+        Some(Form::Erased)
+    } else {
+        None
     }
-    if same(word, b"C3") {
-        return Form::Cubic;
-    }
-    if same(word, b"C5") {
-        return Form::Quintic;
-    }
-    if same(word, b"erased") {
-        return Form::Erased;
-    }
-    Form::Unknown
 }
 
-// Takes the numbers of a line, from a place on, as many as there is room for.
-fn take_numbers(text: &[u8], from: usize, form: Form, out: &mut [i64]) -> Taken
-    requires { from ≤ length text.now }
-    ensures { NumbersIn text.now from out.new result }
+// Takes the numbers of a text, as many as there is room for.
+fn take_numbers(text: &[u8], form: Form, out: &mut [i64]) -> Result<(), Wrong>
+    ensures { NumbersIn text.now out.new result }
 {
+    // Counted by hand: a word too many and a number too few are told apart. A zip would end at the shorter of the two, and the count of an enumerate
+    // is gone behind the loop, where it is asked for.
     let mut count: usize = 0;
-    let mut at = find(text, from, Sought::Word);
-    while at < text.len() {
-        let end = find(text, at, Sought::Gap);
-        let x = match number_in(&text[at..end]) {
-            Number::Of(x) => x,
-            Number::TooLarge => return Taken::Wrong(Why::TooLarge, at),
-            Number::None => return Taken::Wrong(Why::NoNumber, at),
-        };
+    for word in Words::of(text) {
+        let x = number_in(word.bytes).map_err(|none| Why::from(none).at(word.place))?;
         if count >= out.len() {
-            return Taken::Wrong(Why::TooMany(form), at);
+            return Err(Why::TooMany(form).at(word.place));
         }
         out[count] = x;
         count += 1;
-        at = find(text, end, Sought::Word);
     }
     if count < out.len() {
-        return Taken::Wrong(Why::Missing(form), at);
+        return Err(Why::Missing(form).at(text.len()));
     }
-    Taken::All
+    Ok(())
 }
 
-fn wrong(why: Why, place: usize) -> Said
-    ensures { result ≡ record { line = Wrong why; place = place } }
-{
-    Said {
-        line: Line::Wrong(why),
-        place,
-    }
-}
-
-// One number, from a place on, that is not below 0 and not above a bound.
-fn amount_in(text: &[u8], from: usize, form: Form, most: usize, beyond: Why) -> Amount
-    requires { from ≤ length text.now }
-    ensures { AmountIn text.now from most result }
+// The one number of a text, which is not below 0 and not above a bound.
+fn amount_in(text: &[u8], form: Form, most: usize, beyond: Why) -> Result<usize, Wrong>
+    ensures { AmountIn text.now most result }
 {
     let mut n = [0i64; 1];
-    if let Taken::Wrong(why, place) = take_numbers(text, from, form, &mut n) {
-        return Amount::Wrong(why, place);
-    }
-    let x = n[0];
-    let place = find(text, from, Sought::Word);
-    if x < 0 {
-        return Amount::Wrong(beyond, place);
-    }
-    let size = x as usize;
-    if size > most {
-        return Amount::Wrong(beyond, place);
-    }
-    Amount::Of(size)
-}
-
-// The mission's number.
-fn mission(text: &[u8], first: usize, from: usize) -> Said
-    requires { (first ≤ length text.now) × (from ≤ length text.now) }
-    ensures { SaysBehind mission_word text.now from result }
-{
-    match amount_in(text, from, Form::Mission, 65535, Why::MissionNumber) {
-        Amount::Of(number) => Said {
-            line: Line::Mission(number as u16),
-            place: first,
-        },
-        Amount::Wrong(why, place) => wrong(why, place),
+    take_numbers(text, form, &mut n)?;
+    match usize::try_from(n[0]) {
+        Ok(size) if size <= most => Ok(size),
+        _ => Err(beyond.at(find(text, 0, Sought::Word))),
     }
 }
 
-// How many bytes stay erased.
-fn erased(text: &[u8], first: usize, from: usize) -> Said
-    requires { (first ≤ length text.now) × (from ≤ length text.now) }
-    ensures { SaysBehind erased_word text.now from result }
+// The curve of a form, which has so many numbers.
+fn curve<const N: usize>(text: &[u8], form: Form) -> Result<Line, Wrong>
+    requires { N ≤ 12 }
+    ensures { CurveBehind text.now N result }
 {
-    match amount_in(
-        text,
-        from,
-        Form::Erased,
-        9223372036854775807,
-        Why::BelowNothing,
-    ) {
-        Amount::Of(count) => Said {
-            line: Line::Erased(count),
-            place: first,
-        },
-        Amount::Wrong(why, place) => wrong(why, place),
-    }
+    let mut n = [0i64; N];
+    take_numbers(text, form, &mut n)?;
+    // Refused where no curve has N numbers.
+    let curve = curve_in(&n).ok_or(Why::Missing(form).at(0))?;
+    Ok(Line::Curve(curve))
 }
 
-// The curve that fills the numbers' area.
-fn curve(text: &[u8], first: usize, from: usize, form: Form, n: &mut [i64]) -> Said
-    requires { (first ≤ length text.now) × (from ≤ length text.now) }
-    ensures { CurveBehind text.now from (length n.old) result }
+// What stands behind the word of a form.
+fn behind(form: Form, text: &[u8]) -> Result<Line, Wrong>
+    ensures { SaysBehind (word_of form) text.now result }
 {
-    if let Taken::Wrong(why, place) = take_numbers(text, from, form, n) {
-        return wrong(why, place);
+    match form {
+        Form::Mission => {
+            let number = amount_in(text, form, 65535, Why::MissionNumber)?;
+            // No number here is above the bound, so `try_from` would have an error that never comes.
+            Ok(Line::Mission(number as u16))
+        }
+        Form::Cubic => curve::<8>(text, form),
+        Form::Quintic => curve::<12>(text, form),
+        Form::Erased => {
+            let count = amount_in(text, form, 9223372036854775807, Why::BelowNothing)?;
+            Ok(Line::Erased(count))
+        }
     }
-    match curve_in(n) {
-        Given::Curve(c) => Said {
-            line: Line::Curve(c),
-            place: first,
-        },
-        // The area has room for the numbers of a curve.
-        Given::WrongCount => wrong(Why::Missing(form), first),
-    }
-}
-
-fn cubic(text: &[u8], first: usize, from: usize) -> Said
-    requires { (first ≤ length text.now) × (from ≤ length text.now) }
-    ensures { SaysBehind cubic_word text.now from result }
-{
-    let mut n = [0i64; 8];
-    curve(text, first, from, Form::Cubic, &mut n)
-}
-
-fn quintic(text: &[u8], first: usize, from: usize) -> Said
-    requires { (first ≤ length text.now) × (from ≤ length text.now) }
-    ensures { SaysBehind quintic_word text.now from result }
-{
-    let mut n = [0i64; 12];
-    curve(text, first, from, Form::Quintic, &mut n)
 }
 
 // What a line without its comment says.
-fn read_words(text: &[u8]) -> Said
+fn read_words(text: &[u8]) -> Result<Said, Wrong>
     ensures { WordsSay text.now result }
 {
-    let first = find(text, 0, Sought::Word);
-    if first == text.len() {
-        return Said {
+    let mut words = Words::of(text);
+    let Some(Word { place, bytes }) = words.next() else {
+        return Ok(Said {
             line: Line::Nothing,
-            place: first,
-        };
-    }
-    let end = find(text, first, Sought::Gap);
-    match form_of(&text[first..end]) {
-        Form::Mission => mission(text, first, end),
-        Form::Cubic => cubic(text, first, end),
-        Form::Quintic => quintic(text, first, end),
-        Form::Erased => erased(text, first, end),
-        Form::Unknown => wrong(Why::Word, first),
+            place: text.len(),
+        });
+    };
+    let Some(form) = form_of(bytes) else {
+        return Err(Why::Word.at(place));
+    };
+    // By a match: with `map_err` and `?` the proof did not close over the sum in the closure, which is the place that is told.
+    match behind(form, words.rest()) {
+        Ok(line) => Ok(Said { line, place }),
+        // Its place counts from the word's end.
+        Err(wrong) => Err(wrong.why.at(words.at + wrong.place)),
     }
 }
 
 // What a line says. A comment goes from a # to the line's end.
-pub(crate) fn read_line(text: &[u8]) -> Said
+pub(crate) fn read_line(text: &[u8]) -> Result<Said, Wrong>
     ensures { LineSays text.now result }
 {
     let end = find(text, 0, Sought::Byte(b'#'));

@@ -6,14 +6,11 @@ mod lines;
 mod making;
 mod messages;
 
-ghost use Rattle.std.specs.Prelude.{◌≡◌, length};
-ghost use Rattle.record.specs.Records.{longest};
 ghost use Rattle.make_sheet.specs.Making.{Makes};
 
-use lines::{Why, read_line};
-use making::{Stage, Step, size_of, take_line};
-use messages::{say, say_refused, say_wrong};
-use reading::{Sought, find};
+use lines::Why;
+use making::Making;
+use reading::Lines;
 use record::LONGEST;
 use refusal::Refusal;
 use sheet::erase;
@@ -21,36 +18,32 @@ use std::io;
 use std::io::{Read, Write};
 use streams::read_full;
 
-// What was made: a sheet of so many bytes, or nothing, for a line was refused or is wrong.
-#[derive(Clone, Copy)]
-pub enum Made {
-    Sheet(usize),
-    Refused(usize, Refusal),
-    Wrong(usize, usize, Why),
+// Why nothing was made: a line was refused, or something is wrong at a column of it. Both are counted from 1.
+// No struct of a line, a column and a `Stop`: a column beside a refusal is open, and that a refused text has just one answer would not stand.
+#[derive(Clone, Copy, Debug, PartialEq, Eq)]
+pub enum NoSheet {
+    Refused {
+        line: usize,
+        refusal: Refusal,
+    },
+    Wrong {
+        line: usize,
+        column: usize,
+        why: Why,
+    },
 }
 
-// Takes the lines one by one, up to the first that makes an end of it.
-fn make(text: &[u8], area: &mut [u8]) -> Made
-    requires { length area.old ≡ longest }
+// Takes the lines one by one, up to the first that makes an end of it. The sheet is so many of the area's first bytes.
+fn make(text: &[u8], area: &mut [u8; LONGEST]) -> Result<usize, NoSheet>
     ensures { Makes text.now area.new result }
 {
-    erase(area);
-    let mut stage = Stage::Blank;
-    let mut at: usize = 0;
-    let mut number: usize = 1;
-    while at < text.len() {
-        let end = find(text, at, Sought::Byte(b'\n'));
-        let said = read_line(&text[at..end]);
-        let line = said.line;
-        match take_line(area, stage, line) {
-            Step::Next(next) => stage = next,
-            Step::Refused(refusal) => return Made::Refused(number, refusal),
-            Step::Wrong(why) => return Made::Wrong(number, said.place + 1, why),
-        }
-        at = end + 1;
-        number += 1;
+    // An area of a sheet's full length can be erased.
+    erase(area).unwrap();
+    let mut sheet = Making::of(area);
+    for (passed, line) in Lines::of(text).enumerate() {
+        sheet.take(line, passed + 1)?;
     }
-    Made::Sheet(size_of(area, stage))
+    Ok(sheet.size())
 }
 
 // Makes the sheet, and hands it over or says why there is none.
@@ -58,14 +51,11 @@ fn make_from<W: Write, E: Write>(
     output: &mut W,
     errors: &mut E,
     text: &[u8],
-    area: &mut [u8],
-) -> io::Result<()>
-    requires { length area.old ≡ longest }
-{
+    area: &mut [u8; LONGEST],
+) -> io::Result<()> {
     match make(text, area) {
-        Made::Sheet(size) => output.write_all(&area[..size]),
-        Made::Refused(line, refusal) => say_refused(errors, line, refusal),
-        Made::Wrong(line, column, why) => say_wrong(errors, line, column, why),
+        Ok(size) => output.write_all(&area[..size]),
+        Err(none) => writeln!(errors, "{none}"),
     }
 }
 
@@ -75,13 +65,11 @@ fn make_input<R: Read, W: Write, E: Write>(
     output: &mut W,
     errors: &mut E,
     text: &mut [u8],
-    area: &mut [u8],
-) -> io::Result<()>
-    requires { length area.old ≡ longest }
-{
+    area: &mut [u8; LONGEST],
+) -> io::Result<()> {
     let read = read_full(input, text)?;
     if read == text.len() {
-        say(errors, "error: the text has more than 65,535 bytes\n")
+        writeln!(errors, "error: the text has more than 65,535 bytes")
     } else {
         make_from(output, errors, &text[..read], area)
     }

@@ -1,97 +1,123 @@
 // The sheet, line by line.
-ghost use Rattle.std.specs.Prelude.{◌≡◌, length};
-ghost use Rattle.record.specs.Records.{longest};
-ghost use Rattle.make_sheet.specs.Making.{afterwards, Begins, Adds, ending, Takes, size_in};
+ghost use Rattle.std.specs.Prelude.{◌≡◌};
+ghost use Rattle.make_sheet.specs.declared.making.Stop.TheVariants as stop;
+ghost use Rattle.sheet.specs.Survey.{survey};
+ghost use Rattle.make_sheet.specs.Making.{ending_at, line_of, stop_of, size_in};
 
-use crate::lines::{Line, Why};
-use curve::Curve;
-use refusal::Refusal;
-use sheet::{Change, append, start, walk};
+use crate::NoSheet;
+use crate::lines::{Line, Why, read_line};
+use record::LONGEST;
+use refusal::{Fault, Refusal};
+use sheet::{append, start, walk};
 
 // How far the sheet is: nothing was said, it is started, or it is known how many bytes it has.
-#[derive(Clone, Copy)]
+#[derive(Clone, Copy, Debug, PartialEq, Eq)]
 pub enum Stage {
     Blank,
     Started,
     Ended(usize),
 }
 
-// What a line did: the sheet is so far now, or the library refused, or the line may not stand here.
-#[derive(Clone, Copy)]
-pub enum Step {
-    Next(Stage),
+// Why a line makes an end of it: the library refused, or something is wrong with the line, which may be no more than that it may not stand here.
+#[derive(Clone, Copy, Debug, PartialEq, Eq)]
+pub enum Stop {
     Refused(Refusal),
     Wrong(Why),
 }
 
-// What a change of the sheet leads to.
-fn changed(change: Change) -> Step
-    ensures { result ≡ afterwards change }
-{
-    match change {
-        Change::Done => Step::Next(Stage::Started),
-        Change::Refused(f) => {
-            let refusal = f.refusal;
-            Step::Refused(refusal)
+impl From<Fault> for Stop {
+    ghost from_gives = { λ f s. s ≡ stop.Refused f.refusal };
+
+    fn from(fault: Fault) -> Stop {
+        Stop::Refused(fault.refusal)
+    }
+}
+
+impl Stop {
+    // What is told of it: the line, and where something is wrong the column too.
+    fn at(self, line: usize, column: usize) -> NoSheet
+        ensures line { line_of result ≡ line }
+        ensures stop { stop_of result ≡ self }
+    {
+        match self {
+            Stop::Refused(refusal) => NoSheet::Refused { line, refusal },
+            Stop::Wrong(why) => NoSheet::Wrong { line, column, why },
         }
     }
 }
 
-// The mission is said once, before any curve.
-fn begin(area: &mut [u8], stage: Stage, number: u16) -> Step
-    ensures { Begins stage number area.old area.new result }
-{
-    match stage {
-        Stage::Blank => changed(start(area, number)),
-        Stage::Started => Step::Wrong(Why::MissionAgain),
-        Stage::Ended(_) => Step::Wrong(Why::BehindErased),
-    }
-}
-
-fn add(area: &mut [u8], stage: Stage, curve: Curve) -> Step
-    ensures { Adds stage curve area.old area.new result }
-{
-    if let Stage::Ended(_) = stage {
-        return Step::Wrong(Why::BehindErased);
-    }
-    changed(append(area, curve))
-}
-
 // So many erased bytes stay behind the records.
-fn end(area: &[u8], stage: Stage, count: usize) -> Step
-    requires { length area.now ≡ longest }
-    ensures { result ≡ ending stage count area.now }
+fn end(area: &[u8; LONGEST], count: usize) -> Result<Stage, Stop>
+    ensures { result ≡ ending_at (survey area.now).end count }
 {
-    if let Stage::Ended(_) = stage {
-        return Step::Wrong(Why::BehindErased);
-    }
     let records = walk(area, true, 0).end;
     if count > area.len() - records {
-        return Step::Refused(Refusal::TooLong);
+        return Err(Stop::Refused(Refusal::TooLong));
     }
-    Step::Next(Stage::Ended(records + count))
+    Ok(Stage::Ended(records + count))
 }
 
-// What a line does.
-pub(crate) fn take_line(area: &mut [u8], stage: Stage, line: Line) -> Step
-    requires { length area.old ≡ longest }
-    ensures { Takes stage line area.old area.new result }
-{
-    match line {
-        Line::Nothing => Step::Next(stage),
-        Line::Mission(number) => begin(area, stage, number),
-        Line::Curve(curve) => add(area, stage, curve),
-        Line::Erased(count) => end(area, stage, count),
-        Line::Wrong(why) => Step::Wrong(why),
-    }
+// The sheet that is made: its area, and how far it is.
+#[derive(Drop)]
+pub(crate) struct Making<'a> {
+    area: &'a mut [u8; LONGEST],
+    stage: Stage,
 }
 
-// How many bytes of the area the sheet has. Where nothing is said of it, no byte stays erased.
-pub(crate) fn size_of(area: &[u8], stage: Stage) -> usize
-    ensures { result ≡ size_in stage area.now }
-{
-    if let Stage::Ended(size) = stage {
-        return size;
+impl<'a> Making<'a> {
+    ghost use Rattle.make_sheet.specs.Steps.{Blank, Next, TakesIn};
+
+    // Nothing was said.
+    pub(crate) fn of(area: &'a mut [u8; LONGEST]) -> Making<'a>
+        ensures { Blank area.entry result }
+    {
+        Making {
+            area,
+            stage: Stage::Blank,
+        }
     }
-    walk(area, true, 0).end
+
+    // What a line does. The mission is said once, before any curve, and behind `erased` nothing is said.
+    fn next(&mut self, line: Line) -> Result<Stage, Stop>
+        ensures { Next self.old line self.new result }
+    {
+        match (self.stage, line) {
+            (stage, Line::Nothing) => Ok(stage),
+            (Stage::Ended(_), _) => Err(Stop::Wrong(Why::BehindErased)),
+            (Stage::Started, Line::Mission(_)) => Err(Stop::Wrong(Why::MissionAgain)),
+            (Stage::Blank, Line::Mission(number)) => {
+                start(self.area, number)?;
+                Ok(Stage::Started)
+            }
+            (_, Line::Curve(curve)) => {
+                append(self.area, curve)?;
+                Ok(Stage::Started)
+            }
+            (_, Line::Erased(count)) => end(self.area, count),
+        }
+    }
+
+    // Takes the line of this number: what it says, and what that does.
+    pub(crate) fn take(&mut self, text: &[u8], line: usize) -> Result<(), NoSheet>
+        ensures { TakesIn self.old text.now line self.new result }
+    {
+        let said = read_line(text).map_err(|wrong| Stop::Wrong(wrong.why).at(
+            line,
+            wrong.place + 1,
+        ))?;
+        self.stage = self
+            .next(said.line)
+            .map_err(|stop| stop.at(line, said.place + 1))?;
+        Ok(())
+    }
+
+    // How many bytes of the area the sheet has. Where nothing is said of it, no byte stays erased.
+    pub(crate) fn size(&self) -> usize
+        ensures { result ≡ size_in self.now.stage self.now.area.now }
+    {
+        if let Stage::Ended(size) = self.stage {
+            return size;
+        }
+        walk(self.area, true, 0).end
+    }
 }

@@ -1,8 +1,11 @@
 -- One answer of each promise.
 --   measured_once       what `length` promises
 --   inflected_once      what `inflections` promises
-use mathlib.Core.Path.{◌≡◌, sym, ap, ◌∙◌, subst}
-use Rattle.refusal.proofs.Answers.{refuse_once, first_or_once}
+use mathlib.Core.Path.{◌≡◌, sym, ◌∙◌, subst}
+use Rattle.std.specs.Prelude.{Result}
+use Rattle.refusal.specs.declared.Refusal.{Refusal}
+use Rattle.refusal.specs.Answers.{answer_of}
+use Rattle.refusal.proofs.Answers.{answer_once, first_or_once}
 use Rattle.whole.specs.Number.{Tells}
 use Rattle.whole.proofs.Flags.{told_once}
 use Rattle.verdict.specs.declared.Quadratic.{Quadratic}
@@ -12,28 +15,10 @@ use Rattle.verdict.specs.Promise.{preimage_causes}
 use Rattle.verdict.proofs.Once.{one_preimage}
 use Rattle.measure.specs.declared.lengths.Length.{Length}
 use Rattle.measure.specs.declared.counting.Inflections.{Inflections}
-use Rattle.measure.specs.declared.LengthAnswer.{LengthAnswer}
-use Rattle.measure.specs.declared.LengthAnswer.TheVariants as L
-use Rattle.measure.specs.declared.InflectionAnswer.{InflectionAnswer}
-use Rattle.measure.specs.declared.InflectionAnswer.TheVariants as I
 use Rattle.measure.specs.declared.Turning.{Turning}
 use Rattle.measure.specs.Turns.{Straight, CountIs, Inflects}
-use Rattle.measure.specs.Promise.{answer_of_length, answer_of_inflections, LengthOf, InflectionsOf, Measured, Inflected}
+use Rattle.measure.specs.Promise.{LengthOf, InflectionsOf, Measured, Inflected}
 use Rattle.measure.proofs.Most.{count_once}
-
--- ---- length
-length-answer_once : (r s : LengthAnswer) → answer_of_length r ≡ answer_of_length s → r ≡ s
-length-answer_once (L.Found l) (L.Found m) e = cc
-length-answer_once (L.Found l) (L.Refused t) e = cc
-length-answer_once (L.Refused r) (L.Found m) e = cc
-length-answer_once (L.Refused r) (L.Refused t) e = ap L.Refused (refuse_once Length e)
-
--- ---- inflections
-inflections-answer_once : (r s : InflectionAnswer) → answer_of_inflections r ≡ answer_of_inflections s → r ≡ s
-inflections-answer_once (I.Found i) (I.Found j) e = cc
-inflections-answer_once (I.Found i) (I.Refused t) e = cc
-inflections-answer_once (I.Refused r) (I.Found j) e = cc
-inflections-answer_once (I.Refused r) (I.Refused t) e = ap I.Refused (refuse_once Inflections e)
 
 inflects_once : (w : Quadratic) (i j : Inflections) → Inflects w i → Inflects w j → i ≡ j
 inflects_once w i j h k =
@@ -46,14 +31,14 @@ module _ (curve : Curve) where
   lengths_once : (l m : Length) → LengthOf curve l → LengthOf curve m → l ≡ m
   lengths_once l m h k = let (p, e, f) = one_preimage (leg_polynomial (points_of curve)) h k in e ∙ sym f
 
-  pub measured_once : (r s : LengthAnswer) → Measured curve r → Measured curve s → r ≡ s
+  pub measured_once : (r s : Result Length Refusal) → Measured curve r → Measured curve s → r ≡ s
   measured_once r s h k =
-      length-answer_once r s (first_or_once (preimage_causes (points_of curve)) (LengthOf curve) lengths_once (answer_of_length r) (answer_of_length s) h k)
+      answer_once r s (first_or_once (preimage_causes (points_of curve)) (LengthOf curve) lengths_once (answer_of r) (answer_of s) h k)
 
   inflections_once : (i j : Inflections) → InflectionsOf curve i → InflectionsOf curve j → i ≡ j
   inflections_once i j h k = let (p, e, f) = one_preimage (leg_polynomial (points_of curve)) h k in inflects_once p.w i j e f
 
-  pub inflected_once : (r s : InflectionAnswer) → Inflected curve r → Inflected curve s → r ≡ s
+  pub inflected_once : (r s : Result Inflections Refusal) → Inflected curve r → Inflected curve s → r ≡ s
   inflected_once r s h k =
-      inflections-answer_once r s
-      (first_or_once (preimage_causes (points_of curve)) (InflectionsOf curve) inflections_once (answer_of_inflections r) (answer_of_inflections s) h k)
+      answer_once r s
+      (first_or_once (preimage_causes (points_of curve)) (InflectionsOf curve) inflections_once (answer_of r) (answer_of s) h k)

@@ -11,7 +11,8 @@ use pair::cross;
 use verdict::Quadratic;
 
 // How often the turning polynomial changes its sign, and whether it is zero throughout.
-#[derive(Clone, Copy)]
+// Both, and no Option: C is handed both numbers, and the promise gives a straight curve a count of its own, 0.
+#[derive(Clone, Copy, Debug, PartialEq, Eq)]
 pub struct Inflections {
     pub turning: Turning,
     pub count: u8,
@@ -22,16 +23,10 @@ fn turning(w: Quadratic) -> Turning
     requires { AllWithin 2000 (quadratic w) }
     ensures { result ≡ turning_of w }
 {
-    let b0 = w.b0;
-    let b1 = w.b1;
-    let b2 = w.b2;
-    let x01 = cross(b0, b1);
-    let x02 = cross(b0, b2);
-    let x12 = cross(b1, b2);
     Turning {
-        t0: x01,
-        t1: x02 * 2,
-        t2: x12,
+        t0: cross(w.b0, w.b1),
+        t1: cross(w.b0, w.b2) * 2,
+        t2: cross(w.b1, w.b2),
     }
 }
 
@@ -40,44 +35,28 @@ fn count(x: Turning) -> u8
     requires { Moderate x }
     ensures { CountIs x result }
 {
-    let a = x.t0;
-    let t1 = x.t1;
-    let t2 = x.t2;
+    let Turning { t0: a, t1, t2 } = x;
     let b = a * 2 + t1;
     let c = a + t1 + t2;
     let ac = a * c;
-    if ac < 0 {
-        return 1;
-    }
     let level = b * (a + c) >= 0;
-    if level {
-        return 0;
+    if ac < 0 {
+        1
+    } else if level {
+        0
+    } else if ac == 0 {
+        1
+    } else if ac * 4 < b * b {
+        2
+    } else {
+        0
     }
-    if ac == 0 {
-        return 1;
-    }
-    if ac * 4 < b * b {
-        return 2;
-    }
-    0
 }
 
 fn is_straight(x: Turning) -> bool
     ensures { Tells (Straight x) result }
 {
-    let t0 = x.t0;
-    let t1 = x.t1;
-    let t2 = x.t2;
-    if t0 != 0 {
-        return false;
-    }
-    if t1 != 0 {
-        return false;
-    }
-    if t2 != 0 {
-        return false;
-    }
-    true
+    x.t0 == 0 && x.t1 == 0 && x.t2 == 0
 }
 
 // The inflections, where D = k w^2.
@@ -86,11 +65,9 @@ pub(crate) fn inflections_by(w: Quadratic) -> Inflections
     ensures { Inflects w result }
 {
     let turning = turning(w);
-    let count = count(turning);
-    let straight = is_straight(turning);
     Inflections {
         turning,
-        count,
-        straight,
+        count: count(turning),
+        straight: is_straight(turning),
     }
 }

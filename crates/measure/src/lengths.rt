@@ -10,7 +10,7 @@ use root::Quartic;
 use verdict::Square;
 
 // sqrt(c) a / b
-#[derive(Clone, Copy)]
+#[derive(Clone, Copy, Debug, PartialEq, Eq)]
 pub struct Length {
     pub c: i64,
     pub a: i64,
@@ -18,14 +18,12 @@ pub struct Length {
 }
 
 // A, where q belongs to a cubic: its upper two coefficients are zero.
+// By hand: each kind has its own weights, as the definitions `cubic_a` and `quintic_a` have; one sum over a table of weights would multiply a cubic's zeros.
 fn cubic_a(q: Quartic) -> i64
     requires { Each wholes Small (quartic q) }
     ensures { result ≡ cubic_a q }
 {
-    let q0 = q.q0;
-    let q1 = q.q1;
-    let q2 = q.q2;
-    q0 * 6 + q1 * 3 + q2 * 2
+    q.q0 * 6 + q.q1 * 3 + q.q2 * 2
 }
 
 // A, where q belongs to a quintic.
@@ -33,12 +31,7 @@ fn quintic_a(q: Quartic) -> i64
     requires { Each wholes Small (quartic q) }
     ensures { result ≡ quintic_a q }
 {
-    let q0 = q.q0;
-    let q1 = q.q1;
-    let q2 = q.q2;
-    let q3 = q.q3;
-    let q4 = q.q4;
-    q0 * 60 + q1 * 30 + q2 * 20 + q3 * 15 + q4 * 12
+    q.q0 * 60 + q.q1 * 30 + q.q2 * 20 + q.q3 * 15 + q.q4 * 12
 }
 
 // The length, where N = c q^2.
@@ -46,16 +39,16 @@ pub fn length_by(curve: Curve, s: Square) -> Length
     requires { Each wholes Small (quartic s.q) }
     ensures { result ≡ length_of curve s }
 {
-    let c = s.c;
-    let q = s.q;
     match curve {
-        Curve::Cubic(_) => {
-            let a = cubic_a(q);
-            Length { c, a, b: 2 }
-        }
-        Curve::Quintic(_) => {
-            let a = quintic_a(q);
-            Length { c, a, b: 12 }
-        }
+        Curve::Cubic(_) => Length {
+            c: s.c,
+            a: cubic_a(s.q),
+            b: 2,
+        },
+        Curve::Quintic(_) => Length {
+            c: s.c,
+            a: quintic_a(s.q),
+            b: 12,
+        },
     }
 }

@@ -11,44 +11,26 @@ use curve::Curve;
 use lengths::Length;
 pub use lengths::length_by;
 use refusal::Refusal;
-use verdict::{PreimageAnswer, preimage_of};
+use verdict::preimage_of;
 
 // t0 + t1 t + t2 t^2
-#[derive(Clone, Copy)]
+#[derive(Clone, Copy, Debug, PartialEq, Eq)]
 pub struct Turning {
     pub t0: i64,
     pub t1: i64,
     pub t2: i64,
 }
 
-#[derive(Clone, Copy)]
-pub enum LengthAnswer {
-    Found(Length),
-    Refused(Refusal),
-}
-
-#[derive(Clone, Copy)]
-pub enum InflectionAnswer {
-    Found(Inflections),
-    Refused(Refusal),
-}
-
 // The length, as a root and a fraction.
-pub fn length(curve: Curve) -> LengthAnswer
+pub fn length(curve: Curve) -> Result<Length, Refusal>
     ensures { Measured curve result }
 {
-    match preimage_of(curve) {
-        PreimageAnswer::Found(p) => LengthAnswer::Found(length_by(curve, p.square)),
-        PreimageAnswer::Refused(r) => LengthAnswer::Refused(r),
-    }
+    Ok(length_by(curve, preimage_of(curve)?.square))
 }
 
 // How the curve turns: its turning polynomial, how often that changes its sign inside, and whether it is zero throughout.
-pub fn inflections(curve: Curve) -> InflectionAnswer
+pub fn inflections(curve: Curve) -> Result<Inflections, Refusal>
     ensures { Inflected curve result }
 {
-    match preimage_of(curve) {
-        PreimageAnswer::Found(p) => InflectionAnswer::Found(inflections_by(p.w)),
-        PreimageAnswer::Refused(r) => InflectionAnswer::Refused(r),
-    }
+    Ok(inflections_by(preimage_of(curve)?.w))
 }

@@ -4,7 +4,9 @@ use mathlib.Core.Path.{◌≡◌, sym, ap, ◌∙◌}
 use mathlib.Core.List.{List}
 use Prim.Native.Nat.{ℕ}
 use lib.IntN.{ℤ, pos, nat_abs}
-use Rattle.refusal.proofs.Answers.{refuse_once}
+use Rattle.std.specs.Prelude.{Result}
+use Rattle.refusal.specs.declared.Refusal.{Refusal}
+use Rattle.refusal.proofs.Answers.{answer_once}
 use Rattle.whole.specs.Number.{wholes}
 use Rattle.poly.specs.Polynomials.{scaled}
 use Rattle.area.proofs.Promises.{first_or_in_once}
@@ -13,15 +15,7 @@ use Rattle.root.specs.Promise.{quartic}
 use Rattle.curve.specs.declared.Curve.{Curve}
 use Rattle.curve.specs.Curves.{points_of, leg_polynomial}
 use Rattle.verdict.proofs.Once.{one_preimage}
-use Rattle.offset.specs.declared.OffsetAnswer.{OffsetAnswer}
-use Rattle.offset.specs.declared.OffsetAnswer.TheVariants.{Written, Refused}
-use Rattle.offset.specs.Promise.{offset_curve, offset_numbers, OffsetOf, answer_of_offset, OffsetBy}
-
-answer_once : (r s : OffsetAnswer) → answer_of_offset r ≡ answer_of_offset s → r ≡ s
-answer_once (Written m) (Written n) e = cc
-answer_once (Written m) (Refused t) e = cc
-answer_once (Refused r) (Written n) e = cc
-answer_once (Refused r) (Refused t) e = ap Refused (refuse_once ℕ e)
+use Rattle.offset.specs.Promise.{offset_curve, offset_numbers, OffsetOf, OffsetBy}
 
 module _ (curve : Curve) (h : ℤ) where
   numbers_once : (a b : List ℤ) → OffsetOf curve h a → OffsetOf curve h b → a ≡ b
@@ -30,5 +24,5 @@ module _ (curve : Curve) (h : ℤ) where
       let m : k.m ≡ l.m = root-equal k.m l.m (ap nat_abs (sym k.root ∙ l.root)) in
       k.is ∙ ap (λ n. offset_numbers curve (offset_curve (points_of curve) (scaled wholes (pos n) (quartic p.square.q)) h)) m ∙ sym l.is
 
-  pub offset_once : (before a b : List ℤ) (r s : OffsetAnswer) → OffsetBy curve h before a r → OffsetBy curve h before b s → (r ≡ s) × (a ≡ b)
+  pub offset_once : (before a b : List ℤ) (r s : Result ℕ Refusal) → OffsetBy curve h before a r → OffsetBy curve h before b s → (r ≡ s) × (a ≡ b)
   offset_once before a b r s i j = let (e, areas) = first_or_in_once numbers_once i j in (answer_once r s e, areas)

@@ -2,7 +2,7 @@
 --   row_of                   the coefficients of w x + h d
 --   row_size                 where the coefficients of w, x, h and d are within their bounds, those of w x + h d are within these
 --   row_size-most            of which none is above n · 3.2 · 10¹³ and the size of h d, for n powers of w
---   Stage                   a Nonic that holds w x + h d, where w and d have n coefficients
+--   Stage                   ten coefficients that are those of w x + h d, where w and d have n
 --   stage_none, stage_step, stage_within     `joined` makes the next stage of it; its size
 --   stage_row               the last stage is the row
 --   row_sized               so a row that is asked for is within these sizes
@@ -10,9 +10,10 @@ use mathlib.Core.Path.{◌≡◌, refl, sym, ap, ap₂, ◌∙◌, subst, fun_ex
 use mathlib.Core.List.{List, [], ◌∷◌}
 use Prim.Native.Nat.{ℕ, zero, suc, ◌+◌, ◌*◌, ◌≤◌, zero-le}
 use native.Mathlib.Nat.{mul-le-mul}
+use native.Mathlib.Decide.{dec_le}
 use native.Mathlib.Omega.{arith}
-use lib.IntN.{ℤ, pos, ◌+ℤ◌, ◌*ℤ◌, +ℤ_assoc, +ℤ_idl, *ℤ-zero}
-use lib.ListN.{length, get_or, get_or-eq_default}
+use lib.IntN.{ℤ, pos, ◌+ℤ◌, ◌*ℤ◌, +ℤ_assoc, *ℤ-zero}
+use lib.ListN.{length, replicate, get_or, get_or-eq_default}
 use Rattle.whole.specs.Coefficients.{at}
 use Rattle.poly.specs.Polynomials.{scaled, product}
 use Rattle.whole.specs.Number.{wholes, Within}
@@ -24,9 +25,7 @@ use Rattle.poly.proofs.Lists.{at_sum, at_scaled, at-product}
 use Rattle.poly.proofs.Zeros.{at-zeros}
 use Rattle.root.specs.Promise.{root_size}
 use Rattle.curve.specs.Sizes.{coordinate_reach}
-use Rattle.offset.specs.declared.Coordinate.{Coordinate}
-use Rattle.offset.specs.declared.Nonic.{Nonic}
-use Rattle.offset.specs.Steps.{coordinate_of, nonic, joined_to, RowAsked, IsRow}
+use Rattle.offset.specs.Steps.{IsJoined, RowAsked, IsRow}
 
 abbrev pub row_of : Series ℤ → Series ℤ → ℤ → Series ℤ → Series ℤ
 row_of w x h d k = conv wholes w x k +ℤ h *ℤ d k
@@ -77,73 +76,54 @@ row_size-most (suc n) zero = omega arith
 row_size-most (suc n) (suc k) = omega (arith, x_size-most (suc k), row_size-most n k)
 
 -- ---- the steps
-joined-suc : (p : Nonic) (f : ℤ) (x : Coordinate) (g : ℤ) → p.e9 ≡ pos 0 → (k : ℕ) → at wholes (nonic (joined_to p f x g)) (suc k) ≡ f *ℤ at wholes (coordinate_of x) (suc k) +ℤ at wholes (nonic p) k
-joined-suc p f x g z zero = refl
-joined-suc p f x g z (suc zero) = refl
-joined-suc p f x g z (suc (suc zero)) = refl
-joined-suc p f x g z (suc (suc (suc zero))) = refl
-joined-suc p f x g z (suc (suc (suc (suc zero)))) = refl
-joined-suc p f x g z (suc (suc (suc (suc (suc k))))) = upper k
-  where
-    past : (a : ℤ) → a ≡ f *ℤ pos 0 +ℤ a
-    past a = sym (ap (λ z. z +ℤ a) (*ℤ-zero f) ∙ +ℤ_idl a)
-
-    upper : (k : ℕ) → at wholes (p.e5 ∷ p.e6 ∷ p.e7 ∷ p.e8 ∷ []) k ≡ f *ℤ pos 0 +ℤ at wholes (p.e5 ∷ p.e6 ∷ p.e7 ∷ p.e8 ∷ p.e9 ∷ []) k
-    upper zero = past p.e5
-    upper (suc zero) = past p.e6
-    upper (suc (suc zero)) = past p.e7
-    upper (suc (suc (suc zero))) = past p.e8
-    upper (suc (suc (suc (suc zero)))) = past (pos 0) ∙ ap (λ a. f *ℤ pos 0 +ℤ a) (sym z)
-    upper (suc (suc (suc (suc (suc k))))) = past (pos 0)
-
--- a Nonic that holds the row of w and d
-pub record Stage (x : Coordinate) (h : ℤ) (n : ℕ) (p : Nonic) (w d : List ℤ) : Type 0 where
+-- ten coefficients that are those of the row of w and d
+pub record Stage (x : List ℤ) (h : ℤ) (n : ℕ) (p w d : List ℤ) : Type 0 where
+  pub long : length p ≡ 10
   pub w_long : length w ≡ n
   pub d_long : length d ≡ n
   pub w_small : (k : ℕ) → Within root_size (at wholes w k)
   pub d_small : (k : ℕ) → Within 1280000 (at wholes d k)
-  pub row : (k : ℕ) → at wholes (nonic p) k ≡ row_of (at wholes w) (at wholes (coordinate_of x)) h (at wholes d) k
+  pub row : (k : ℕ) → at wholes p k ≡ row_of (at wholes w) (at wholes x) h (at wholes d) k
 
-abbrev pub none : Nonic
-none = record { e0 = pos 0; e1 = pos 0; e2 = pos 0; e3 = pos 0; e4 = pos 0; e5 = pos 0; e6 = pos 0; e7 = pos 0; e8 = pos 0; e9 = pos 0 }
-
-pub stage_none : (x : Coordinate) (h : ℤ) → Stage x h 0 none [] []
+pub stage_none : (x : List ℤ) (h : ℤ) → Stage x h 0 (replicate 10 (pos 0)) [] []
 stage_none x h = record {
+  long = refl;
   w_long = refl;
   d_long = refl;
   w_small = λ k. record { size = zero-le };
   d_small = λ k. record { size = zero-le };
-  row = λ k. at-zeros wholes 10 k ∙ sym (ap₂ ◌+ℤ◌ (conv-none wholes_ring (at wholes (coordinate_of x)) k) (*ℤ-zero h));
+  row = λ k. at-zeros wholes 10 k ∙ sym (ap₂ ◌+ℤ◌ (conv-none wholes_ring (at wholes x) k) (*ℤ-zero h));
 }
 
-module _ {x : Coordinate} {h : ℤ} (hx : (k : ℕ) → Within 1600000 (at wholes (coordinate_of x) k)) (hh : Within coordinate_reach h) where
-  x-sized : (k : ℕ) → Within (x_size k) (at wholes (coordinate_of x) k)
+row_ninth : (n : ℕ) → n ≤ 4 → row_size n 9 ≡ 0
+row_ninth zero l = refl
+row_ninth (suc zero) l = refl
+row_ninth (suc (suc zero)) l = refl
+row_ninth (suc (suc (suc zero))) l = refl
+row_ninth (suc (suc (suc (suc zero)))) l = refl
+row_ninth (suc (suc (suc (suc (suc n))))) l = absurd (omega arith)
+
+module _ (x : List ℤ) {h : ℤ} (short : length x ≤ 6) (hx : (k : ℕ) → Within 1600000 (at wholes x k)) (hh : Within coordinate_reach h) where
+  x-sized : (k : ℕ) → Within (x_size k) (at wholes x k)
   x-sized zero = hx 0
   x-sized (suc zero) = hx 1
   x-sized (suc (suc zero)) = hx 2
   x-sized (suc (suc (suc zero))) = hx 3
   x-sized (suc (suc (suc (suc zero)))) = hx 4
   x-sized (suc (suc (suc (suc (suc zero))))) = hx 5
-  x-sized (suc (suc (suc (suc (suc (suc k)))))) = record { size = zero-le }
+  x-sized (suc (suc (suc (suc (suc (suc k)))))) = rw (get_or-eq_default x (pos 0) {n = suc (suc (suc (suc (suc (suc k)))))} (omega arith)) (record { size = zero-le })
 
-  pub stage_within : (n : ℕ) (p : Nonic) (w d : List ℤ) → Stage x h n p w d → (k : ℕ) → Within (row_size n k) (at wholes (nonic p) k)
+  pub stage_within : (n : ℕ) (p w d : List ℤ) → Stage x h n p w d → (k : ℕ) → Within (row_size n k) (at wholes p k)
   stage_within n p w d s k =
       rw (s.row k)
-      (row_within x-sized hh n (at wholes w) (at wholes d) s.w_small s.d_small
+      (row_within (λ i. x-sized i) hh n (at wholes w) (at wholes d) s.w_small s.d_small
       (λ i l. get_or-eq_default w (pos 0) {n = i} (omega (arith, s.w_long))) (λ i l. get_or-eq_default d (pos 0) {n = i} (omega (arith, s.d_long))) k)
 
-  row_ninth : (n : ℕ) → n ≤ 4 → row_size n 9 ≡ 0
-  row_ninth zero l = refl
-  row_ninth (suc zero) l = refl
-  row_ninth (suc (suc zero)) l = refl
-  row_ninth (suc (suc (suc zero))) l = refl
-  row_ninth (suc (suc (suc (suc zero)))) l = refl
-  row_ninth (suc (suc (suc (suc (suc n))))) l = absurd (omega arith)
-
-  pub stage_step : (n : ℕ) (p : Nonic) (w d : List ℤ) (a b : ℤ) → n ≤ 4 → Within root_size a → Within 1280000 b → Stage x h n p w d
-      → Stage x h (suc n) (joined_to p a x (h *ℤ b)) (a ∷ w) (b ∷ d)
+  pub stage_step : (n : ℕ) (p w d r : List ℤ) (a b : ℤ) → n ≤ 4 → Within root_size a → Within 1280000 b → Stage x h n p w d → length r ≡ 10 → IsJoined p a x (h *ℤ b) r
+      → Stage x h (suc n) r (a ∷ w) (b ∷ d)
   unfolding conv
-  stage_step n p w d a b l ha hb s = record {
+  stage_step n p w d r a b l ha hb s long joined = record {
+    long = long;
     w_long = ap suc s.w_long;
     d_long = ap suc s.d_long;
     w_small = first a w ha s.w_small;
@@ -155,25 +135,41 @@ module _ {x : Coordinate} {h : ℤ} (hx : (k : ℕ) → Within 1600000 (at whole
       first a w h t zero = h
       first a w h t (suc k) = t k
 
-      ninth : p.e9 ≡ pos 0
-      ninth = abs_zero p.e9 (omega (arith, (stage_within n p w d s 9).size, row_ninth n l))
+      -- there is nothing in p from its last coefficient on
+      last : (k : ℕ) → 9 ≤ k → at wholes p k ≡ pos 0
+      last k m = by (dec_le 10 k)
+        where
+          by : Dec (10 ≤ k) → at wholes p k ≡ pos 0
+          by (yes i) = get_or-eq_default p (pos 0) {n = k} (omega (arith, s.long))
+          by (no i) =
+              let ninth : k ≡ 9 = omega arith in
+              rw ninth (abs_zero (at wholes p 9) (omega (arith, (stage_within n p w d s 9).size, row_ninth n l)))
 
-      step : (k : ℕ) → at wholes (nonic (joined_to p a x (h *ℤ b))) k ≡ row_of (at wholes (a ∷ w)) (at wholes (coordinate_of x)) h (at wholes (b ∷ d)) k
-      step zero = refl
+      moved : (k : ℕ) → at wholes r (suc k) ≡ a *ℤ at wholes x (suc k) +ℤ at wholes p k
+      moved k = by (dec_le 9 k)
+        where
+          by : Dec (9 ≤ k) → at wholes r (suc k) ≡ a *ℤ at wholes x (suc k) +ℤ at wholes p k
+          by (yes m) =
+              get_or-eq_default r (pos 0) {n = suc k} (omega arith)
+              ∙ sym (ap₂ (λ (u v : ℤ). a *ℤ u +ℤ v) (get_or-eq_default x (pos 0) {n = suc k} (omega arith)) (last k m) ∙ ap (λ (u : ℤ). u +ℤ pos 0) (*ℤ-zero a))
+          by (no m) = joined (suc k) (omega arith)
+
+      step : (k : ℕ) → at wholes r k ≡ row_of (at wholes (a ∷ w)) (at wholes x) h (at wholes (b ∷ d)) k
+      step zero = joined 0 (omega arith)
       step (suc k) =
-          joined-suc p a x (h *ℤ b) ninth k
-          ∙ ap (λ t. a *ℤ at wholes (coordinate_of x) (suc k) +ℤ t) (s.row k)
-          ∙ sym (row-suc (at wholes (a ∷ w)) (at wholes (coordinate_of x)) h (at wholes (b ∷ d)) k)
+          moved k
+          ∙ ap (λ t. a *ℤ at wholes x (suc k) +ℤ t) (s.row k)
+          ∙ sym (row-suc (at wholes (a ∷ w)) (at wholes x) h (at wholes (b ∷ d)) k)
 
-pub stage_row : {x : Coordinate} {h : ℤ} {n : ℕ} {p : Nonic} {w d : List ℤ} → Stage x h n p w d → IsRow w (coordinate_of x) h d (nonic p)
+pub stage_row : {x : List ℤ} {h : ℤ} {n : ℕ} {p w d : List ℤ} → Stage x h n p w d → IsRow w x h d p
 stage_row {x} {h} {w} {d} s k =
     s.row k
-    ∙ sym (at_sum wholes_ring (product wholes w (coordinate_of x)) (scaled wholes h d) k
-    ∙ ap₂ ◌+ℤ◌ (at-product wholes_ring w (coordinate_of x) k) (at_scaled wholes_ring h d k))
+    ∙ sym (at_sum wholes_ring (product wholes w x) (scaled wholes h d) k
+    ∙ ap₂ ◌+ℤ◌ (at-product wholes_ring w x k) (at_scaled wholes_ring h d k))
 
-pub row_sized : {x : Coordinate} {h : ℤ} {w d : List ℤ} (r : List ℤ) → RowAsked w (coordinate_of x) h d → length w ≤ 5 → length d ≤ 5 → IsRow w (coordinate_of x) h d r → (k : ℕ) → Within (row_size 5 k) (at wholes r k)
-row_sized {x} {h} {w} {d} r a lw ld e k =
+pub row_sized : {x : List ℤ} {h : ℤ} {w d : List ℤ} (r : List ℤ) → RowAsked w x h d → length x ≤ 6 → length w ≤ 5 → length d ≤ 5 → IsRow w x h d r → (k : ℕ) → Within (row_size 5 k) (at wholes r k)
+row_sized {x} {h} {w} {d} r a lx lw ld e k =
     subst (Within (row_size 5 k))
-    (sym (e k ∙ at_sum wholes_ring (product wholes w (coordinate_of x)) (scaled wholes h d) k ∙ ap₂ ◌+ℤ◌ (at-product wholes_ring w (coordinate_of x) k) (at_scaled wholes_ring h d k)))
-    (row_within (x-sized a.x_small a.h_small) a.h_small 5 (at wholes w) (at wholes d) a.w_small a.d_small
+    (sym (e k ∙ at_sum wholes_ring (product wholes w x) (scaled wholes h d) k ∙ ap₂ ◌+ℤ◌ (at-product wholes_ring w x k) (at_scaled wholes_ring h d k)))
+    (row_within (x-sized x lx a.x_small a.h_small) a.h_small 5 (at wholes w) (at wholes d) a.w_small a.d_small
     (λ i l. get_or-eq_default w (pos 0) {n = i} (omega arith)) (λ i l. get_or-eq_default d (pos 0) {n = i} (omega arith)) k)

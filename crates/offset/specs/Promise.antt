@@ -6,12 +6,12 @@
 --   beyond, no_root, no_room   the causes of RANGE, ROOT and ROOM
 --   curve_causes, causes       why a curve has no offset at h, whatever the area; the order of all causes: 6, 8, 9, 10, 11, 12
 --   OffsetFrom, OffsetOf       the numbers of the offset, where c is m²; that they are those of the curve's pre-image
---   answer_of_offset             how many numbers were written, or the refusal
---   OffsetBy                   what `offset` promises
-use Rattle.std.specs.Prelude.{◌≡◌, List, [], ◌∷◌, ◌++◌, ℕ, zero, suc, ◌*◌, ◌<◌, ℤ, pos, neg_ℤ, length}
+--   OffsetBy                   what `offset` promises: how many numbers were written, or the refusal
+use Rattle.std.specs.Prelude.{◌≡◌, Result, List, [], ◌∷◌, ◌++◌, ℕ, zero, suc, ◌*◌, ◌<◌, ℤ, pos, neg_ℤ, length}
+use Rattle.refusal.specs.declared.Refusal.{Refusal}
 use Rattle.refusal.specs.declared.Refusal.TheVariants as R
 use Rattle.refusal.specs.Table.{Cause}
-use Rattle.refusal.specs.Answers.{Answer, refuse, given}
+use Rattle.refusal.specs.Answers.{answer_of}
 use Rattle.poly.specs.Polynomials.{sum, scaled, product}
 use Rattle.whole.specs.Number.{wholes, Within}
 use Rattle.area.specs.Promise.{FirstOrIn}
@@ -27,8 +27,6 @@ use Rattle.verdict.specs.declared.Preimage.{Preimage}
 use Rattle.verdict.specs.declared.Square.{Square}
 use Rattle.verdict.specs.Verdicts.{PreimageOf, WithPreimage}
 use Rattle.verdict.specs.Promise.{still, not_ph, no_preimage}
-use Rattle.offset.specs.declared.OffsetAnswer.{OffsetAnswer}
-use Rattle.offset.specs.declared.OffsetAnswer.TheVariants.{Written, Refused}
 
 -- ---- the offset
 pub record Rational : Type 0 where
@@ -88,9 +86,5 @@ pub record OffsetFrom (curve : Curve) (h : ℤ) (s : Square) (ns : List ℤ) : T
 abbrev pub OffsetOf : Curve → ℤ → List ℤ → Type 0
 OffsetOf curve h ns = WithPreimage (leg_polynomial (points_of curve)) (λ p. OffsetFrom curve h p.square ns)
 
-abbrev pub answer_of_offset : OffsetAnswer → Answer ℕ
-answer_of_offset (Written n) = given n
-answer_of_offset (Refused r) = refuse r 0
-
-abbrev pub OffsetBy : Curve → ℤ → List ℤ → List ℤ → OffsetAnswer → Type 0
-OffsetBy curve h before after r = FirstOrIn (causes curve h (length before)) (OffsetOf curve h) (λ ns. ns) length before after (answer_of_offset r)
+abbrev pub OffsetBy : Curve → ℤ → List ℤ → List ℤ → Result ℕ Refusal → Type 0
+OffsetBy curve h before after r = FirstOrIn (causes curve h (length before)) (OffsetOf curve h) (λ ns. ns) length before after (answer_of r)

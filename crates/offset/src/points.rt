@@ -5,58 +5,36 @@ ghost use Rattle.whole.specs.Coefficients.{at};
 ghost use Rattle.root.specs.Search.{Each};
 ghost use Rattle.bernstein.specs.Binomials.{binomial_sum};
 ghost use Rattle.offset.specs.Promise.{point_numbers};
-ghost use Rattle.offset.specs.Steps.{nonic, IsNext, Putting};
+ghost use Rattle.offset.specs.Steps.{IsNext, Putting};
 
 use crate::{Nonic, Rows};
 
 // Each coefficient and the one above it, added: by Pascal's rule the first of the k-th row is the k-th sum with binomial coefficients.
-fn next(e: Nonic) -> Nonic
-    requires { Each wholes (Within 4500000000000000000) (nonic e) }
-    ensures { IsNext (nonic e) (nonic result) }
+fn step(e: &mut Nonic)
+    requires { Each wholes (Within 4500000000000000000) e.old }
+    ensures { IsNext e.old e.new }
 {
-    let e0 = e.e0;
-    let e1 = e.e1;
-    let e2 = e.e2;
-    let e3 = e.e3;
-    let e4 = e.e4;
-    let e5 = e.e5;
-    let e6 = e.e6;
-    let e7 = e.e7;
-    let e8 = e.e8;
-    let e9 = e.e9;
-    Nonic {
-        e0: e0 + e1,
-        e1: e1 + e2,
-        e2: e2 + e3,
-        e3: e3 + e4,
-        e4: e4 + e5,
-        e5: e5 + e6,
-        e6: e6 + e7,
-        e7: e7 + e8,
-        e8: e8 + e9,
-        e9,
+    // By hand: no iterator lends a coefficient to be written beside the next to be read.
+    for k in 0..9 {
+        e[k] += e[k + 1];
     }
 }
 
 // Writes W, X and Y of one point after the other over the whole of the area.
 pub(crate) fn put_points(area: &mut [i64], count: usize, rows: Rows)
     requires { Putting (length area.old) count rows }
-    ensures { area.new ≡ point_numbers count (binomial_sum (at wholes (nonic rows.w))) (binomial_sum (at wholes (nonic rows.x))) (binomial_sum (at wholes (nonic rows.y))) }
+    ensures { area.new ≡ point_numbers count (binomial_sum (at wholes rows.w)) (binomial_sum (at wholes rows.x)) (binomial_sum (at wholes rows.y)) }
 {
-    let mut w = rows.w;
-    let mut x = rows.x;
-    let mut y = rows.y;
-    let mut i: usize = 0;
-    while i < area.len() {
-        let w0 = w.e0;
-        let x0 = x.e0;
-        let y0 = y.e0;
-        area[i] = w0;
-        area[i + 1] = x0;
-        area[i + 2] = y0;
-        w = next(w);
-        x = next(x);
-        y = next(y);
-        i += 3;
+    let Rows {
+        mut w,
+        mut x,
+        mut y,
+    } = rows;
+    // By hand: of what `chunks_exact_mut` lends a proof knows the length alone.
+    for k in 0..count {
+        area[3 * k..3 * k + 3].copy_from_slice(&[w[0], x[0], y[0]]);
+        step(&mut w);
+        step(&mut x);
+        step(&mut y);
     }
 }

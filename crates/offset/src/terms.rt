@@ -5,7 +5,7 @@ ghost use Rattle.pair.specs.Pairs.{pairs};
 ghost use Rattle.root.specs.Promise.{quartic};
 ghost use Rattle.curve.specs.Curves.{points_of};
 ghost use Rattle.offset.specs.Promise.{offset_curve};
-ghost use Rattle.offset.specs.Steps.{coordinate_of, PathAsked, IsPath, RowsAsked, RowsOf};
+ghost use Rattle.offset.specs.Steps.{PathAsked, IsPath, RowsAsked, RowsOf};
 
 use crate::polynomials::{extended, row, weighted, weights};
 use crate::{Coordinate, Rows};
@@ -18,26 +18,16 @@ use whole::share;
 // x with x' = n d, from its start.
 fn path(start: i64, d: Quartic, n: i64) -> Coordinate
     requires { PathAsked (quartic d) n }
-    ensures { IsPath start (quartic d) n (coordinate_of result) }
+    ensures { IsPath start (quartic d) n result }
 {
-    let d0 = d.q0;
-    let d1 = d.q1;
-    let d2 = d.q2;
-    let d3 = d.q3;
-    let d4 = d.q4;
-    let x1 = d0 * n;
-    let x2 = share(d1 * n, 2);
-    let x3 = share(d2 * n, 3);
-    let x4 = share(d3 * n, 4);
-    let x5 = share(d4 * n, 5);
-    Coordinate {
-        x0: start,
-        x1,
-        x2,
-        x3,
-        x4,
-        x5,
-    }
+    [
+        start,
+        d.q0 * n,
+        share(d.q1 * n, 2),
+        share(d.q2 * n, 3),
+        share(d.q3 * n, 4),
+        share(d.q4 * n, 5),
+    ]
 }
 
 // The point where a curve starts.

@@ -1,6 +1,7 @@
 // Pairs: complex numbers with whole parts. Their sums and products, and tests of them.
 // What is multiplied has parts of at most 2^30 in size, so that the parts of a product, and a norm, are at most 2^61. What is only added,
-// taken away or turned may be as large as a product.
+// taken away or turned may be as large as a product. These bounds stand in the contracts and not in a type: the result of one operation is
+// an argument of the next under another bound, so that a type for each would be converted at each step.
 #![tactic(auto)]
 
 ghost use Rattle.std.specs.Prelude.{◌≡◌, ◌∷◌, [], ◌^◌};
@@ -8,23 +9,21 @@ ghost use Rattle.whole.specs.Number.{Tells, Within};
 ghost use Rattle.poly.specs.Polynomials.{Same};
 ghost use Rattle.pair.specs.Pairs.{pairs, PartsWithin, plus, minus, negative, times, multiple, norm, cross, imaginary};
 
-#[derive(Clone, Copy)]
+#[derive(Clone, Copy, Debug, PartialEq, Eq)]
 pub struct Pair {
     pub re: i64,
     pub im: i64,
 }
 
+pub const ZERO: Pair = Pair { re: 0, im: 0 };
+
 pub fn sum(a: Pair, b: Pair) -> Pair
     requires { PartsWithin (2 ^ 61) a × PartsWithin (2 ^ 61) b }
     ensures { result ≡ plus a b }
 {
-    let x = a.re;
-    let y = a.im;
-    let u = b.re;
-    let v = b.im;
     Pair {
-        re: x + u,
-        im: y + v,
+        re: a.re + b.re,
+        im: a.im + b.im,
     }
 }
 
@@ -32,13 +31,9 @@ pub fn difference(a: Pair, b: Pair) -> Pair
     requires { PartsWithin (2 ^ 61) a × PartsWithin (2 ^ 61) b }
     ensures { result ≡ minus a b }
 {
-    let x = a.re;
-    let y = a.im;
-    let u = b.re;
-    let v = b.im;
     Pair {
-        re: x - u,
-        im: y - v,
+        re: a.re - b.re,
+        im: a.im - b.im,
     }
 }
 
@@ -46,9 +41,10 @@ pub fn negative(a: Pair) -> Pair
     requires { PartsWithin (2 ^ 61) a }
     ensures { result ≡ negative a }
 {
-    let x = a.re;
-    let y = a.im;
-    Pair { re: -x, im: -y }
+    Pair {
+        re: -a.re,
+        im: -a.im,
+    }
 }
 
 // i a
@@ -56,22 +52,19 @@ pub fn turned(a: Pair) -> Pair
     requires { PartsWithin (2 ^ 61) a }
     ensures { result ≡ times imaginary a }
 {
-    let x = a.re;
-    let y = a.im;
-    Pair { re: -y, im: x }
+    Pair {
+        re: -a.im,
+        im: a.re,
+    }
 }
 
 pub fn product(a: Pair, b: Pair) -> Pair
     requires { PartsWithin (2 ^ 30) a × PartsWithin (2 ^ 30) b }
     ensures { result ≡ times a b }
 {
-    let x = a.re;
-    let y = a.im;
-    let u = b.re;
-    let v = b.im;
     Pair {
-        re: x * u - y * v,
-        im: x * v + y * u,
+        re: a.re * b.re - a.im * b.im,
+        im: a.re * b.im + a.im * b.re,
     }
 }
 
@@ -79,11 +72,9 @@ pub fn multiple(k: i64, a: Pair) -> Pair
     requires { Within (2 ^ 30) k × PartsWithin (2 ^ 30) a }
     ensures { result ≡ multiple k a }
 {
-    let x = a.re;
-    let y = a.im;
     Pair {
-        re: k * x,
-        im: k * y,
+        re: k * a.re,
+        im: k * a.im,
     }
 }
 
@@ -91,9 +82,7 @@ pub fn norm(a: Pair) -> i64
     requires { PartsWithin (2 ^ 30) a }
     ensures { result ≡ norm a }
 {
-    let x = a.re;
-    let y = a.im;
-    x * x + y * y
+    a.re * a.re + a.im * a.im
 }
 
 // a × b
@@ -101,73 +90,26 @@ pub fn cross(a: Pair, b: Pair) -> i64
     requires { PartsWithin (2 ^ 30) a × PartsWithin (2 ^ 30) b }
     ensures { result ≡ cross a b }
 {
-    let x = a.re;
-    let y = a.im;
-    let u = b.re;
-    let v = b.im;
-    x * v - u * y
+    a.re * b.im - b.re * a.im
 }
 
 // Whether a pair is 0.
 pub fn is_zero(p: Pair) -> bool
     ensures { Tells (p ≡ pairs.none) result }
 {
-    let x = p.re;
-    let y = p.im;
-    if x != 0 {
-        return false;
-    }
-    if y != 0 {
-        return false;
-    }
-    true
-}
-
-// Whether a and b are equal.
-pub fn equal(a: Pair, b: Pair) -> bool
-    ensures { Tells (a ≡ b) result }
-{
-    if a.re != b.re {
-        return false;
-    }
-    if a.im != b.im {
-        return false;
-    }
-    true
+    p.re == 0 && p.im == 0
 }
 
 // Whether a, b and c are all 0.
 pub fn three_are_zero(a: Pair, b: Pair, c: Pair) -> bool
     ensures { Tells (Same pairs (a ∷ b ∷ c ∷ []) []) result }
 {
-    if !is_zero(a) {
-        return false;
-    }
-    if !is_zero(b) {
-        return false;
-    }
-    is_zero(c)
+    is_zero(a) && is_zero(b) && is_zero(c)
 }
 
-// Whether both parts are at most `bound` away from zero. Compared here and not by `whole::within`: so short, it is taken into its callers.
+// Whether both parts are at most `bound` away from zero.
 pub fn within(p: Pair, bound: u32) -> bool
     ensures { Tells (PartsWithin bound p) result }
 {
-    let x = p.re;
-    let y = p.im;
-    let most = bound as i64;
-    let least = 0 - most;
-    if x < least {
-        return false;
-    }
-    if most < x {
-        return false;
-    }
-    if y < least {
-        return false;
-    }
-    if most < y {
-        return false;
-    }
-    true
+    whole::within(p.re, bound) && whole::within(p.im, bound)
 }

@@ -7,27 +7,13 @@
 #![tactic(auto)]
 
 ghost use Rattle.std.specs.Prelude.{◌≡◌};
-ghost use Rattle.parts.specs.Promise.{stays, Starts, Feeds, EndsSheet, Asks};
+ghost use Rattle.parts.specs.Promise.{Starts, Feeds, EndsSheet, Asks};
 
-use refusal::{Refusal, nowhere};
-use sheet::{Change, Checked};
+use refusal::{Fault, Refusal};
+use sheet::Checked;
 use states::{State, answer, go_on, is_reached};
 
-// What `feed` answers, and the state afterwards.
-#[derive(Clone, Copy)]
-pub struct Fed {
-    pub state: State,
-    pub answer: Change,
-}
-
-// What `ask` answers.
-#[derive(Clone, Copy)]
-pub enum Told {
-    Sheet(Checked),
-    NotEnded,
-    Refused(Refusal),
-}
-
+// The state of no bytes, number by number: that it is these zeros is promised here.
 pub fn start() -> State
     ensures { Starts result }
 {
@@ -42,29 +28,17 @@ pub fn start() -> State
     }
 }
 
-fn refused(state: State, refusal: Refusal) -> Fed
-    ensures { result ≡ stays state refusal }
-{
-    Fed {
-        state,
-        answer: Change::Refused(nowhere(refusal)),
-    }
-}
-
-// Takes a part more.
-pub fn feed(state: State, part: &[u8]) -> Fed
+// Takes a part more. Where that is refused, the caller keeps the state as it was. `ended` is a number, here and below: see `State`.
+pub fn feed(state: State, part: &[u8]) -> Result<State, Fault>
     ensures { Feeds state part.now result }
 {
     if !is_reached(state) {
-        return refused(state, Refusal::Range);
+        return Err(Refusal::Range.into());
     }
     if state.ended == 1 {
-        return refused(state, Refusal::Ended);
+        return Err(Refusal::Ended.into());
     }
-    Fed {
-        state: go_on(state, part),
-        answer: Change::Done,
-    }
+    Ok(go_on(state, part))
 }
 
 // There are no more parts.
@@ -74,27 +48,18 @@ pub fn end(state: State) -> State
     if !is_reached(state) {
         return state;
     }
-    let words = state.words;
-    State {
-        ended: 1,
-        count: state.count,
-        mission: state.mission,
-        curves: state.curves,
-        place: state.place,
-        erased: state.erased,
-        words,
-    }
+    State { ended: 1, ..state }
 }
 
-// What `check` answers for all the bytes, once they have ended.
-pub fn ask(state: State) -> Told
+// Three layers: an `Err` where no bytes leave the state, `None` where they have not ended, and else what `check` answers for all of them.
+pub fn ask(state: State) -> Result<Option<Result<Checked, Fault>>, Refusal>
     ensures { Asks state result }
 {
     if !is_reached(state) {
-        return Told::Refused(Refusal::Range);
+        return Err(Refusal::Range);
     }
     if state.ended == 0 {
-        return Told::NotEnded;
+        return Ok(None);
     }
-    Told::Sheet(answer(state))
+    Ok(Some(answer(state)))
 }

@@ -7,11 +7,12 @@ use Prim.Native.Nat.{ℕ}
 use native.Mathlib.Omega.{arith}
 use lib.IntN.{ℤ}
 use Rattle.states.specs.declared.State.{State}
-use Rattle.parts.specs.declared.Fed.{Fed}
+use Rattle.std.specs.Prelude.{Result}
+use Rattle.refusal.specs.declared.Fault.{Fault}
 use Rattle.parts.specs.Promise.{Asks}
 use Rattle.parts.proofs.Once as once
 use Rattle.parts_calls.specs.Numbers.{state_in}
-use Rattle.parts_calls.specs.Promise.{change_code, told_code, left, fed_area, ended_area, OnState, StartCall, FeedCall, EndCall, AskCall}
+use Rattle.parts_calls.specs.Promise.{fed_code, told_code, left, fed_area, ended_area, OnState, StartCall, FeedCall, EndCall, AskCall}
 
 on_once : (before a b : List ℤ) (r q : ℤ) {P Q : Type 0} → (P → Q → (r ≡ q) × (a ≡ b)) → OnState before a r P → OnState before b q Q → (r ≡ q) × (a ≡ b)
 on_once before a b r q f (inl h) (inl k) = (h.1 ∙ sym k.1, h.2 ∙ sym k.2)
@@ -27,8 +28,8 @@ module _ (before a b : List ℤ) (r q : ℤ) where
   feed_once part =
       on_once before a b r q (λ h k.
       let e = once.feeds_once (state_in before) part h.0 k.0 h.1 k.1 in (
-        h.2 ∙ ap (λ (x : Fed). change_code x.answer) e ∙ sym k.2,
-        h.3 ∙ ap (λ (x : Fed). fed_area before x.state x.answer) e ∙ sym k.3,
+        h.2 ∙ ap (λ (x : Result State Fault). fed_code x) e ∙ sym k.2,
+        h.3 ∙ ap (λ (x : Result State Fault). fed_area before x) e ∙ sym k.3,
       ))
 
   pub end_once : EndCall before a r → EndCall before b q → (r ≡ q) × (a ≡ b)

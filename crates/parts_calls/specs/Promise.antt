@@ -2,23 +2,18 @@
 -- is left.
 --   not_ended       what is returned where the sheet has not ended: the least number
 --   count_in        how many curves `check` tells of
---   change_code, told_code    what is returned for an answer of `feed`, and of `ask`
+--   fed_code, told_code    what is returned for an answer of `feed`, and of `ask`
 --   left           the area with another state; what stands behind the state stays
 --   fed_area, ended_area      the area by the answer: a refusal changes nothing
 --   OnState        an area that is too small is refused with ROOM
 --   StartCall, FeedCall, EndCall, AskCall    the calls
-use Rattle.std.specs.Prelude.{◌≡◌, List, ◌++◌, ◌⊎◌, ℕ, ◌^◌, ◌<◌, ◌≤◌, ℤ, pos, neg_ℤ, length, drop}
+use Rattle.std.specs.Prelude.{◌≡◌, List, ◌++◌, ◌⊎◌, ℕ, ◌^◌, ◌<◌, ◌≤◌, ℤ, pos, neg_ℤ, length, drop, Option, Some, None, Result, Ok, Err}
+use Rattle.refusal.specs.declared.Fault.{Fault}
+use Rattle.refusal.specs.declared.Refusal.{Refusal}
 use Rattle.refusal.specs.declared.Refusal.TheVariants as refusal
-use Rattle.refusal.specs.Answers.{Answer, refused, refuse, with_given}
-use Rattle.sheet.specs.declared.Mission.{Mission}
+use Rattle.refusal.specs.Answers.{Answer, refused, refuse, answer_at, with_given}
 use Rattle.sheet.specs.declared.Checked.{Checked}
-use Rattle.sheet.specs.declared.Change.{Change}
-use Rattle.sheet.specs.declared.Change.TheVariants as change
-use Rattle.sheet.specs.Promise.{answer_of_checked}
 use Rattle.states.specs.declared.State.{State}
-use Rattle.parts.specs.declared.Fed.{Fed}
-use Rattle.parts.specs.declared.Told.{Told}
-use Rattle.parts.specs.declared.Told.TheVariants as told
 use Rattle.parts.specs.Promise.{Starts, Feeds, EndsSheet, Asks}
 use Rattle.hand.specs.Promise.{coded}
 use Rattle.parts_calls.specs.Numbers.{state_numbers, state_in, numbers_in}
@@ -26,29 +21,28 @@ use Rattle.parts_calls.specs.Numbers.{state_numbers, state_in, numbers_in}
 abbrev pub not_ended : ℤ
 not_ended = neg_ℤ (pos (2 ^ 63))
 
-abbrev pub count_in : Checked → Answer ℕ
-count_in x = with_given (λ (told : Mission × ℕ). told.1) (answer_of_checked x)
+abbrev pub count_in : Result Checked Fault → Answer ℕ
+count_in x = with_given (λ (told : Checked). told.curves) (answer_at x)
 
-abbrev pub change_code : Change → ℤ
-change_code change.Done = pos 0
-change_code (change.Refused f) = coded (refused f)
+abbrev pub fed_code : Result State Fault → ℤ
+fed_code (Ok st) = pos 0
+fed_code (Err f) = coded (refused f)
 
-abbrev pub told_code : Told → ℤ
-told_code (told.Sheet x) = coded (count_in x)
-told_code told.NotEnded = not_ended
-told_code (told.Refused r) = coded (refuse r 0)
+abbrev pub told_code : Result (Option (Result Checked Fault)) Refusal → ℤ
+told_code (Ok (Some x)) = coded (count_in x)
+told_code (Ok None) = not_ended
+told_code (Err r) = coded (refuse r 0)
 
 abbrev pub left : List ℤ → State → List ℤ
 left before st = numbers_in st ++ drop state_numbers before
 
-abbrev pub fed_area : List ℤ → State → Change → List ℤ
-fed_area before st change.Done = left before st
-fed_area before st (change.Refused f) = before
+abbrev pub fed_area : List ℤ → Result State Fault → List ℤ
+fed_area before (Ok st) = left before st
+fed_area before (Err f) = before
 
-abbrev pub ended_area : List ℤ → State → Told → List ℤ
-ended_area before st (told.Sheet x) = left before st
-ended_area before st told.NotEnded = left before st
-ended_area before st (told.Refused r) = before
+abbrev pub ended_area : List ℤ → State → Result (Option (Result Checked Fault)) Refusal → List ℤ
+ended_area before st (Ok t) = left before st
+ended_area before st (Err r) = before
 
 abbrev pub OnState : List ℤ → List ℤ → ℤ → Type 0 → Type 0
 OnState before after r Right =
@@ -59,11 +53,11 @@ StartCall before after r = OnState before after r ((st : State) × Starts st × 
 
 abbrev pub FeedCall : List ℤ → List ℕ → List ℤ → ℤ → Type 0
 FeedCall before part after r =
-    OnState before after r ((x : Fed) × Feeds (state_in before) part x × (r ≡ change_code x.answer) × (after ≡ fed_area before x.state x.answer))
+    OnState before after r ((x : Result State Fault) × Feeds (state_in before) part x × (r ≡ fed_code x) × (after ≡ fed_area before x))
 
 abbrev pub EndCall : List ℤ → List ℤ → ℤ → Type 0
 EndCall before after r =
-    OnState before after r ((st : State) × (t : Told) × EndsSheet (state_in before) st × Asks st t × (r ≡ told_code t) × (after ≡ ended_area before st t))
+    OnState before after r ((st : State) × (t : Result (Option (Result Checked Fault)) Refusal) × EndsSheet (state_in before) st × Asks st t × (r ≡ told_code t) × (after ≡ ended_area before st t))
 
 abbrev pub AskCall : List ℤ → ℤ → Type 0
-AskCall area r = OnState area area r ((t : Told) × Asks (state_in area) t × (r ≡ told_code t))
+AskCall area r = OnState area area r ((t : Result (Option (Result Checked Fault)) Refusal) × Asks (state_in area) t × (r ≡ told_code t))

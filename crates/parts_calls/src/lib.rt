@@ -1,155 +1,123 @@
 // The calls for C on a sheet that arrives by parts, over a state in a lent area: `yard` exports them, and include/yard.h has a comment for each.
+// C lends any number of words: so each call asks first for those of a state. Each turns its own answer into a code, since what it
+// counts is its own. `as`, since From doesn't convert between usize and C's 64 bits.
 #![tactic(auto)]
 
-ghost use Rattle.std.specs.Prelude.{◌≡◌, ◌≤◌, length};
-ghost use Rattle.parts_calls.specs.Numbers.{state_numbers, unsigned as unsigned_of, signed as signed_of, state_in};
+ghost use Rattle.std.specs.Prelude.{◌≡◌};
+ghost use Rattle.parts_calls.specs.Numbers.{state_in, numbers_in};
 ghost use Rattle.parts_calls.specs.Steps.{Countable};
-ghost use Rattle.parts_calls.specs.Promise.{told_code, left, StartCall, FeedCall, EndCall, AskCall};
+ghost use Rattle.parts_calls.specs.Promise.{told_code, StartCall, FeedCall, EndCall, AskCall};
 
-use hand::{coded, put};
-use parts::Told;
-use refusal::{Refusal, nowhere};
-use sheet::{Change, Checked};
+use hand::coded;
+use refusal::{Fault, Refusal};
+use sheet::Checked;
 use states::State;
-use whole::size;
 
 // How many numbers a state has.
 const NUMBERS: usize = 13;
 
-// The same 64 bits without a sign: no cast does that without a proof that nothing is lost.
-fn unsigned(x: i64) -> u64
-    ensures { result ≡ unsigned_of x }
+// Number by number, as the C interface has them.
+fn state_in(numbers: &[i64; NUMBERS]) -> State
+    ensures { result ≡ state_in numbers.now }
 {
-    if x < 0 {
-        u64::MAX - (size(x) - 1)
-    } else {
-        size(x)
-    }
-}
-
-// And with one.
-fn signed(n: u64) -> i64
-    ensures { result ≡ signed_of n }
-{
-    if n < 9223372036854775808 {
-        n as i64
-    } else {
-        let below = u64::MAX - n;
-        -(below as i64) - 1
-    }
-}
-
-fn state_in(area: &[i64]) -> State
-    requires { state_numbers ≤ length area.now }
-    ensures { result ≡ state_in area.now }
-{
-    let words = [
-        unsigned(area[6]),
-        unsigned(area[7]),
-        unsigned(area[8]),
-        unsigned(area[9]),
-        unsigned(area[10]),
-        unsigned(area[11]),
-        unsigned(area[12]),
-    ];
     State {
-        ended: unsigned(area[0]) as usize,
-        count: unsigned(area[1]) as usize,
-        mission: unsigned(area[2]) as usize,
-        curves: unsigned(area[3]) as usize,
-        place: unsigned(area[4]) as usize,
-        erased: unsigned(area[5]) as usize,
-        words,
+        ended: numbers[0].cast_unsigned() as usize,
+        count: numbers[1].cast_unsigned() as usize,
+        mission: numbers[2].cast_unsigned() as usize,
+        curves: numbers[3].cast_unsigned() as usize,
+        place: numbers[4].cast_unsigned() as usize,
+        erased: numbers[5].cast_unsigned() as usize,
+        words: [
+            numbers[6].cast_unsigned(),
+            numbers[7].cast_unsigned(),
+            numbers[8].cast_unsigned(),
+            numbers[9].cast_unsigned(),
+            numbers[10].cast_unsigned(),
+            numbers[11].cast_unsigned(),
+            numbers[12].cast_unsigned(),
+        ],
     }
 }
 
-fn put_state(area: &mut [i64], state: State)
-    requires { state_numbers ≤ length area.old }
-    ensures { area.new ≡ left area.old state }
+fn numbers_in(state: State) -> [i64; NUMBERS]
+    ensures { result ≡ numbers_in state }
 {
-    let words = state.words;
-    let numbers = [
-        signed(state.ended as u64),
-        signed(state.count as u64),
-        signed(state.mission as u64),
-        signed(state.curves as u64),
-        signed(state.place as u64),
-        signed(state.erased as u64),
-        signed(words[0]),
-        signed(words[1]),
-        signed(words[2]),
-        signed(words[3]),
-        signed(words[4]),
-        signed(words[5]),
-        signed(words[6]),
-    ];
-    put(area, &numbers);
+    let [w0, w1, w2, w3, w4, w5, w6] = state.words;
+    [
+        (state.ended as u64).cast_signed(),
+        (state.count as u64).cast_signed(),
+        (state.mission as u64).cast_signed(),
+        (state.curves as u64).cast_signed(),
+        (state.place as u64).cast_signed(),
+        (state.erased as u64).cast_signed(),
+        w0.cast_signed(),
+        w1.cast_signed(),
+        w2.cast_signed(),
+        w3.cast_signed(),
+        w4.cast_signed(),
+        w5.cast_signed(),
+        w6.cast_signed(),
+    ]
 }
 
 // What is returned for an answer of `ask`: where the sheet has not ended it is the least number.
-fn told_code(told: Told) -> i64
+fn told_code(told: Result<Option<Result<Checked, Fault>>, Refusal>) -> i64
     requires { Countable told }
     ensures { result ≡ told_code told }
 {
     match told {
-        Told::Sheet(checked) => match checked {
-            Checked::Sheet { mission: _, curves } => curves as i64,
-            Checked::Refused(f) => coded(f),
-        },
-        Told::NotEnded => i64::MIN,
-        Told::Refused(r) => coded(nowhere(r)),
+        Ok(Some(Ok(checked))) => checked.curves as i64,
+        Ok(Some(Err(f))) => coded(f),
+        Ok(None) => i64::MIN,
+        Err(r) => coded(r.into()),
     }
 }
 
 pub fn start(state: &mut [i64]) -> i64
     ensures { StartCall state.old state.new result }
 {
-    if state.len() < NUMBERS {
-        return coded(nowhere(Refusal::Room));
-    }
-    put_state(state, parts::start());
+    let Some(numbers) = state.first_chunk_mut() else {
+        return coded(Refusal::Room.into());
+    };
+    *numbers = numbers_in(parts::start());
     0
 }
 
 pub fn feed(state: &mut [i64], part: &[u8]) -> i64
     ensures { FeedCall state.old part.now state.new result }
 {
-    if state.len() < NUMBERS {
-        return coded(nowhere(Refusal::Room));
-    }
-    let fed = parts::feed(state_in(state), part);
-    let answer = fed.answer;
-    match answer {
-        Change::Done => {
-            let next = fed.state;
-            put_state(state, next);
+    let Some(numbers) = state.first_chunk_mut() else {
+        return coded(Refusal::Room.into());
+    };
+    match parts::feed(state_in(numbers), part) {
+        Ok(next) => {
+            *numbers = numbers_in(next);
             0
         }
-        Change::Refused(f) => coded(f),
+        Err(f) => coded(f),
     }
 }
 
 pub fn end(state: &mut [i64]) -> i64
     ensures { EndCall state.old state.new result }
 {
-    if state.len() < NUMBERS {
-        return coded(nowhere(Refusal::Room));
-    }
-    let ended = parts::end(state_in(state));
+    let Some(numbers) = state.first_chunk_mut() else {
+        return coded(Refusal::Room.into());
+    };
+    let ended = parts::end(state_in(numbers));
     let told = parts::ask(ended);
     // Only numbers of no state are refused here: they stay as they are.
-    if let Told::Refused(r) = told {
-        return coded(nowhere(r));
+    if told.is_ok() {
+        *numbers = numbers_in(ended);
     }
-    put_state(state, ended);
     told_code(told)
 }
 
 pub fn ask(state: &[i64]) -> i64
     ensures { AskCall state.now result }
 {
-    if state.len() < NUMBERS {
-        return coded(nowhere(Refusal::Room));
-    }
-    told_code(parts::ask(state_in(state)))
+    let Some(numbers) = state.first_chunk() else {
+        return coded(Refusal::Room.into());
+    };
+    told_code(parts::ask(state_in(numbers)))
 }

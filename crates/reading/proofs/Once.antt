@@ -1,5 +1,6 @@
 -- Each promise of what is read has one answer: what meets it twice is equal.
 --   find_once        there is one first place of what is sought
+--   next_word_once, next_line_once     a text has one next word, and one next line, and the others stand at one place then
 --   size_once        a word is one size, or too large for one, or none
 --   signed_once      a size has one number with a sign
 --   number_once      a word is one number with a sign, or too large for one, or none
@@ -10,16 +11,20 @@ use mathlib.Core.Path.{◌≡◌, refl, sym, ap, ◌∙◌, subst}
 use mathlib.Core.Bool.{Bool, true, false}
 use mathlib.Core.List.{List, [], ◌∷◌, ◌++◌}
 use mathlib.Core.Logic.{⊎_elim}
-use Prim.Native.Nat.{ℕ, suc, ◌<◌}
+use Prim.Native.Nat.{ℕ, suc, ◌-◌, ◌<◌}
 use native.Mathlib.Omega.{arith}
 use lib.IntN.{ℤ}
-use lib.ListN.{length, get_or, drop}
-use Rattle.reading.specs.declared.numbers.Size.{Size}
-use Rattle.reading.specs.declared.numbers.Size.TheVariants as size
-use Rattle.reading.specs.declared.numbers.Number.{Number}
-use Rattle.reading.specs.declared.numbers.Number.TheVariants as number
+use lib.ListN.{length, get_or, take, drop}
+use Rattle.std.specs.Prelude.{Some, Result, Ok, Err}
+use Rattle.std.specs.Borrow.{Bor}
+use Rattle.reading.specs.declared.numbers.NoNumber.{NoNumber}
+use Rattle.reading.specs.declared.numbers.NoNumber.TheVariants as no
 use Rattle.reading.specs.declared.places.Sought.{Sought}
-use Rattle.reading.specs.Places.{Gap, FirstPlace}
+use Rattle.reading.specs.declared.places.Sought.TheVariants as sought
+use Rattle.reading.specs.declared.words.Word.{Word}
+use Rattle.reading.specs.declared.words.Words.{Words as Following}
+use Rattle.reading.specs.declared.words.Lines.{Lines as FollowingLines}
+use Rattle.reading.specs.Places.{Gap, FirstPlace, NextWord, NextLine}
 use Rattle.reading.specs.Numbers.{IsSize, IsSigned, WithSign, IsNumber, value_of}
 use Rattle.reading.specs.Texts.{Until, Words, LineFeed, Lines, Numbers}
 use Rattle.reading.specs.Texts as texts
@@ -33,45 +38,62 @@ find_once text from x r q h k =
     let soon : r < q → ⊥ = λ l. k.passed r l h.behind (h.there (omega (arith, k.within))) in
     omega (arith, late, soon)
 
+-- ---- words and lines, one after another
+
+module _ (s t u : Following) where
+  pub next_word_once : (v w : Word) → NextWord s (Some v) t → NextWord s (Some w) u → (v.place ≡ w.place) × (v.bytes.now ≡ w.bytes.now) × (t.at ≡ u.at)
+  next_word_once v w h k =
+      let text = s.text.now in
+      let place = find_once text s.at sought.Word v.place w.place h.1.begins k.1.begins in
+      let end = find_once text w.place sought.Gap t.at u.at (subst (λ (n : ℕ). FirstPlace text n sought.Gap t.at) place h.1.ends) k.1.ends in
+      (place, h.1.bytes ∙ (λ i. take (end i - place i) (drop (place i) text)) ∙ sym k.1.bytes, end)
+
+module _ (s t u : FollowingLines) where
+  pub next_line_once : (l m : Bor (List ℕ)) → NextLine s (Some l) t → NextLine s (Some m) u → (l.now ≡ m.now) × (t.at ≡ u.at)
+  next_line_once l m h k =
+      let text = s.text.now in
+      let end = find_once text s.at (sought.Byte 10) h.1.end k.1.end h.1.ends k.1.ends in
+      (h.1.bytes ∙ (λ i. take (end i - s.at) (drop s.at text)) ∙ sym k.1.bytes, omega (arith, h.1.next_is, k.1.next_is))
+
 -- ---- numbers
 
-pub size_once : (word : List ℕ) (r q : Size) → IsSize word r → IsSize word q → r ≡ q
-size_once word (size.Of n) (size.Of m) h k = ap size.Of (h.1 ∙ sym k.1)
-size_once word (size.Of n) size.TooLarge h k = absurd (omega (arith, h.1, h.2, k.1))
-size_once word (size.Of n) size.None h k = absurd (k h.0)
-size_once word size.TooLarge (size.Of m) h k = absurd (omega (arith, k.1, k.2, h.1))
-size_once word size.TooLarge size.TooLarge h k = refl
-size_once word size.TooLarge size.None h k = absurd (k h.0)
-size_once word size.None (size.Of m) h k = absurd (h k.0)
-size_once word size.None size.TooLarge h k = absurd (h k.0)
-size_once word size.None size.None h k = refl
+pub size_once : (word : List ℕ) (r q : Result ℕ NoNumber) → IsSize word r → IsSize word q → r ≡ q
+size_once word (Ok n) (Ok m) h k = ap Ok (h.1 ∙ sym k.1)
+size_once word (Ok n) (Err no.TooLarge) h k = absurd (omega (arith, h.1, h.2, k.1))
+size_once word (Ok n) (Err no.None) h k = absurd (k h.0)
+size_once word (Err no.TooLarge) (Ok m) h k = absurd (omega (arith, k.1, k.2, h.1))
+size_once word (Err no.TooLarge) (Err no.TooLarge) h k = refl
+size_once word (Err no.TooLarge) (Err no.None) h k = absurd (k h.0)
+size_once word (Err no.None) (Ok m) h k = absurd (h k.0)
+size_once word (Err no.None) (Err no.TooLarge) h k = absurd (h k.0)
+size_once word (Err no.None) (Err no.None) h k = refl
 
-pub signed_once : (negative : Bool) (n : ℕ) (r q : Number) → IsSigned negative n r → IsSigned negative n q → r ≡ q
-signed_once negative n (number.Of x) (number.Of y) h k = ap number.Of (h.1 ∙ sym k.1)
-signed_once negative n (number.Of x) number.TooLarge h k = absurd (omega (arith, h.0, k))
-signed_once negative n (number.Of x) number.None h k = absurd k
-signed_once negative n number.TooLarge (number.Of y) h k = absurd (omega (arith, k.0, h))
-signed_once negative n number.TooLarge number.TooLarge h k = refl
-signed_once negative n number.TooLarge number.None h k = absurd k
-signed_once negative n number.None q h k = absurd h
+pub signed_once : (negative : Bool) (n : ℕ) (r q : Result ℤ NoNumber) → IsSigned negative n r → IsSigned negative n q → r ≡ q
+signed_once negative n (Ok x) (Ok y) h k = ap Ok (h.1 ∙ sym k.1)
+signed_once negative n (Ok x) (Err no.TooLarge) h k = absurd (omega (arith, h.0, k))
+signed_once negative n (Ok x) (Err no.None) h k = absurd k
+signed_once negative n (Err no.TooLarge) (Ok y) h k = absurd (omega (arith, k.0, h))
+signed_once negative n (Err no.TooLarge) (Err no.TooLarge) h k = refl
+signed_once negative n (Err no.TooLarge) (Err no.None) h k = absurd k
+signed_once negative n (Err no.None) q h k = absurd h
 
-sign_once : (negative : Bool) (digits : List ℕ) (r q : Number) → WithSign negative digits r → WithSign negative digits q → r ≡ q
-sign_once negative digits (number.Of x) (number.Of y) h k = signed_once negative (value_of digits) (number.Of x) (number.Of y) h.1 k.1
-sign_once negative digits (number.Of x) number.TooLarge h k = signed_once negative (value_of digits) (number.Of x) number.TooLarge h.1 k.1
-sign_once negative digits (number.Of x) number.None h k = absurd (k h.0)
-sign_once negative digits number.TooLarge (number.Of y) h k = signed_once negative (value_of digits) number.TooLarge (number.Of y) h.1 k.1
-sign_once negative digits number.TooLarge number.TooLarge h k = refl
-sign_once negative digits number.TooLarge number.None h k = absurd (k h.0)
-sign_once negative digits number.None (number.Of y) h k = absurd (h k.0)
-sign_once negative digits number.None number.TooLarge h k = absurd (h k.0)
-sign_once negative digits number.None number.None h k = refl
+sign_once : (negative : Bool) (digits : List ℕ) (r q : Result ℤ NoNumber) → WithSign negative digits r → WithSign negative digits q → r ≡ q
+sign_once negative digits (Ok x) (Ok y) h k = signed_once negative (value_of digits) (Ok x) (Ok y) h.1 k.1
+sign_once negative digits (Ok x) (Err no.TooLarge) h k = signed_once negative (value_of digits) (Ok x) (Err no.TooLarge) h.1 k.1
+sign_once negative digits (Ok x) (Err no.None) h k = absurd (k h.0)
+sign_once negative digits (Err no.TooLarge) (Ok y) h k = signed_once negative (value_of digits) (Err no.TooLarge) (Ok y) h.1 k.1
+sign_once negative digits (Err no.TooLarge) (Err no.TooLarge) h k = refl
+sign_once negative digits (Err no.TooLarge) (Err no.None) h k = absurd (k h.0)
+sign_once negative digits (Err no.None) (Ok y) h k = absurd (h k.0)
+sign_once negative digits (Err no.None) (Err no.TooLarge) h k = absurd (h k.0)
+sign_once negative digits (Err no.None) (Err no.None) h k = refl
 
-pub number_once : (word : List ℕ) (r q : Number) → IsNumber word r → IsNumber word q → r ≡ q
+pub number_once : (word : List ℕ) (r q : Result ℤ NoNumber) → IsNumber word r → IsNumber word q → r ≡ q
 number_once word r q h k =
     ⊎_elim (λ e. sign_once true (drop 1 word) r q (h.minus e) (k.minus e)) (λ n. sign_once false word r q (h.plain n) (k.plain n)) (equal_again (get_or word 0 0) 45)
 
-of_once : {x y : ℤ} → number.Of x ≡ number.Of y → x ≡ y
-of_once e = cc
+of_once : {r q : Result ℤ NoNumber} {x y : ℤ} → r ≡ q → r ≡ Ok x → q ≡ Ok y → x ≡ y
+of_once e f g = cc
 
 pub numbers_once : (ws : List (List ℕ)) (xs ys : List ℤ) → Numbers ws xs → Numbers ws ys → xs ≡ ys
 numbers_once [] [] [] h k = refl
@@ -80,7 +102,7 @@ numbers_once [] (x ∷ xs) ys h k = absurd h
 numbers_once (w ∷ ws) [] ys h k = absurd h
 numbers_once (w ∷ ws) (x ∷ xs) [] h k = absurd k
 numbers_once (w ∷ ws) (x ∷ xs) (y ∷ ys) h k =
-    let first = of_once (number_once w (number.Of x) (number.Of y) h.0 k.0) in
+    let first = of_once (number_once w (Ok x) (Ok y) h.0 k.0) refl refl in
     let later = numbers_once ws xs ys h.1 k.1 in
     λ i. first i ∷ later i
 

@@ -4,8 +4,10 @@
 --   gap_again        a byte of which it is not so that it is no gap is one
 --   gaps_passed      up to the first word stand gaps
 --   word-long, word_taken     from a word's first byte to the next gap stands that word
+--   next_word, no_word     the next word, and that there is none, of a text by its name
 --   words_exist      every text has its words
---   line_taken       from a line's first byte to the next line feed stands that line
+--   line_taken, line_found       from a line's first byte to the next line feed stands that line
+--   next_line, no_line     the next line, and that there is none, of a text by its name
 --   lines_exist      every text has its lines
 --   numbers-one      a word more that is a number
 --   numbers-long     as many words as numbers
@@ -18,16 +20,20 @@ use Prim.Native.Nat.{ℕ, zero, suc, ◌+◌, ◌-◌, ◌≤◌, ◌<◌}
 use native.Mathlib.Omega.{arith}
 use lib.Dec.{eqb}
 use lib.IntN.{ℤ, pos, neg_ℤ}
-use lib.ListN.{length, get_or, take, drop, take-append-drop, length-drop}
+use lib.ListN.{length, get_or, take, drop, take-append-drop, length-drop, drop_of_length-le}
 use lib.Seq.{length-take-le, drop-cons, drop-drop, get_or-drop, get_or-take}
 use borrow.Author.Tests.{eqb-true, eqb-false}
 use mir.Syntax.{w64}
 use mir.Val.{SFits}
 use Rattle.whole.proofs.Linear.{linear, negative_parts, one-part}
-use Rattle.reading.specs.declared.numbers.Number.TheVariants as number
+use Rattle.std.specs.Prelude.{Ok, Some, None}
+use Rattle.std.specs.Borrow.{Bor}
 use Rattle.reading.specs.declared.places.Sought.{Sought}
 use Rattle.reading.specs.declared.places.Sought.TheVariants as sought
-use Rattle.reading.specs.Places.{Gap, IsSought, FirstPlace}
+use Rattle.reading.specs.declared.words.Word.{Word}
+use Rattle.reading.specs.declared.words.Lines.{Lines as FollowingLines}
+use Rattle.reading.specs.declared.words.Words.{Words as Following}
+use Rattle.reading.specs.Places.{Gap, IsSought, FirstPlace, WordAt, NextWord, LineAt, NextLine}
 use Rattle.reading.specs.Numbers.{signed_by, reach, IsNumber}
 use Rattle.reading.specs.Texts.{Until, Words, LineFeed, Lines, Numbers}
 use Rattle.reading.specs.Texts as texts
@@ -103,6 +109,13 @@ module _ (text : List ℕ) (at end : ℕ) (f : FirstPlace text at sought.Gap end
       texts.word some (until_there text at sought.Gap end f)
       (subst (λ (t : List ℕ). Words t ws) (sym (ap (λ (n : ℕ). drop n (drop at text)) long ∙ rest_there text at sought.Gap end f)) w)
 
+module _ {text : List ℕ} (from to : Following) (e : from.text.now ≡ text) where
+  pub next_word : {w : Word} → NextWord from (Some w) to → WordAt text from.at w to.at
+  next_word {w} h = subst (λ (t : List ℕ). WordAt t from.at w to.at) e h.1
+
+  pub no_word : NextWord from None to → FirstPlace text from.at sought.Word (length text)
+  no_word h = subst (λ (t : List ℕ). FirstPlace t from.at sought.Word (length t)) e h.1
+
 -- a text has words: a byte before it is a gap, or a word of its own, or the first byte of the first word
 word_begins : (b : ℕ) → (Gap b → ⊥) → (w : List ℕ) → ((i : ℕ) → i < length w → Gap (get_or w i 0) → ⊥) → (i : ℕ) → i < suc (length w) → Gap (get_or (b ∷ w) i 0) → ⊥
 word_begins b n w f zero l g = n g
@@ -132,6 +145,21 @@ line_taken text at end {ls} f l h =
     let some : 0 < length (drop at text) = omega (arith, length-drop at text) in
     texts.line some (until_there text at (sought.Byte 10) end f)
     (subst (λ (t : List ℕ). Lines t ls) (sym (drop-drop (suc (length (take (end - at) (drop at text)))) at text ∙ ap (λ (n : ℕ). drop n text) there)) h)
+
+pub line_found : {text line : List ℕ} {at next : ℕ} → LineAt text at line next → {ls : List (List ℕ)} → Lines (drop next text) ls → Lines (drop at text) (line ∷ ls)
+line_found {text} {line} {at} {next} h {ls} k =
+    subst (λ (l : List ℕ). Lines (drop at text) (l ∷ ls)) (sym h.bytes) (line_taken text at h.end h.ends h.there (subst (λ (t : List ℕ). Lines t ls) (by (equal_again h.end (length text))) k))
+  where
+    by : (h.end ≡ length text) ⊎ (h.end ≡ length text → ⊥) → drop next text ≡ drop (h.end + 1) text
+    by (inl e) = drop_of_length-le text (omega (arith, h.next_is)) ∙ sym (drop_of_length-le text (omega arith))
+    by (inr n) = let there : next ≡ h.end + 1 = omega (arith, h.next_is, h.ends.within) in ap (λ (i : ℕ). drop i text) there
+
+module _ {text : List ℕ} (from to : FollowingLines) (e : from.text.now ≡ text) where
+  pub next_line : (l : Bor (List ℕ)) → NextLine from (Some l) to → LineAt text from.at l.now to.at
+  next_line l h = subst (λ (t : List ℕ). LineAt t from.at l.now to.at) e h.1
+
+  pub no_line : NextLine from None to → from.at ≡ length text
+  no_line h = h.1 ∙ ap length e
 
 -- a text has lines
 first-line : (text : List ℕ) → (l : List ℕ) × Until LineFeed text l
@@ -170,7 +198,7 @@ lines_exist text = lines_within (length text) text (omega arith)
 
 -- ---- numbers
 
-pub numbers-one : (ws : List (List ℕ)) (xs : List ℤ) (w : List ℕ) (x : ℤ) → Numbers ws xs → IsNumber w (number.Of x) → Numbers (ws ++ (w ∷ [])) (xs ++ (x ∷ []))
+pub numbers-one : (ws : List (List ℕ)) (xs : List ℤ) (w : List ℕ) (x : ℤ) → Numbers ws xs → IsNumber w (Ok x) → Numbers (ws ++ (w ∷ [])) (xs ++ (x ∷ []))
 numbers-one [] [] w x h n = (n, tt)
 numbers-one [] (y ∷ xs) w x h n = absurd h
 numbers-one (v ∷ ws) [] w x h n = absurd h
@@ -186,7 +214,7 @@ signed_fits : (negative : Bool) (n : ℕ) → n ≤ reach negative → SFits w64
 signed_fits false n l = omega linear
 signed_fits true n l = omega (linear, negative_parts (pos n), one-part (neg_ℤ (pos n)))
 
-pub number_fits : (w : List ℕ) (x : ℤ) → IsNumber w (number.Of x) → SFits w64 x
+pub number_fits : (w : List ℕ) (x : ℤ) → IsNumber w (Ok x) → SFits w64 x
 number_fits w x h =
     ⊎_elim (λ e. let k = (h.minus e).1 in subst (SFits w64) (sym k.1) (signed_fits true _ k.0))
     (λ n. let k = (h.plain n).1 in subst (SFits w64) (sym k.1) (signed_fits false _ k.0)) (equal_again (get_or w 0 0) 45)

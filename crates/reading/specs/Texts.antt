@@ -3,8 +3,7 @@
 --   Words        the words of a text, which gaps part
 --   Lines        the lines of a text, each without its line feed
 --   Numbers      words that are these numbers
-use Rattle.std.specs.Prelude.{◌≡◌, List, [], ◌∷◌, ◌++◌, ℕ, suc, ◌<◌, ℤ, length, get_or, drop}
-use Rattle.reading.specs.declared.numbers.Number.TheVariants as number
+use Rattle.std.specs.Prelude.{◌≡◌, List, [], ◌∷◌, ◌++◌, ℕ, suc, ◌<◌, ℤ, length, get_or, drop, Ok}
 use Rattle.reading.specs.Places.{Gap}
 use Rattle.reading.specs.Numbers.{IsNumber}
 
@@ -31,4 +30,4 @@ abbrev pub Numbers : List (List ℕ) → List ℤ → Type 0
 Numbers [] [] = Unit {0}
 Numbers [] (x ∷ xs) = ⊥
 Numbers (w ∷ ws) [] = ⊥
-Numbers (w ∷ ws) (x ∷ xs) = IsNumber w (number.Of x) × Numbers ws xs
+Numbers (w ∷ ws) (x ∷ xs) = IsNumber w (Ok x) × Numbers ws xs

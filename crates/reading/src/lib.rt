@@ -3,6 +3,8 @@
 
 mod numbers;
 mod places;
+mod words;
 
-pub use numbers::{Number, Size, number_in, size_in};
-pub use places::{Sought, find, same};
+pub use numbers::{NoNumber, number_in, size_in};
+pub use places::{Sought, find};
+pub use words::{Lines, Word, Words};

@@ -2,18 +2,9 @@
 ghost use Rattle.whole.specs.Number.{Tells};
 ghost use Rattle.reading.specs.Numbers.{AllDigits, Sized, IsSize, IsSigned, WithSign, IsNumber};
 
-// A number without a sign: 64 bits hold it, or it is too large for that, or it is none.
-#[derive(Clone, Copy)]
-pub enum Size {
-    Of(u64),
-    TooLarge,
-    None,
-}
-
-// The same with a sign.
-#[derive(Clone, Copy)]
-pub enum Number {
-    Of(i64),
+// Why a word is no number of 64 bits: it is a whole number too large for that, or it is none.
+#[derive(Clone, Copy, Debug, PartialEq, Eq)]
+pub enum NoNumber {
     TooLarge,
     None,
 }
@@ -21,89 +12,59 @@ pub enum Number {
 fn all_digits(word: &[u8]) -> bool
     ensures { Tells (AllDigits word.now) result }
 {
-    let mut at: usize = 0;
-    while at < word.len() {
-        let b = word[at];
-        if b < b'0' {
-            return false;
-        }
-        if b > b'9' {
-            return false;
-        }
-        at += 1;
-    }
-    true
+    word.iter().all(u8::is_ascii_digit)
 }
 
 // The value of digits.
-fn value(digits: &[u8]) -> Size
+fn value(digits: &[u8]) -> Result<u64, NoNumber>
     requires { Sized digits.now }
     ensures { IsSize digits.now result }
 {
     let mut n: u64 = 0;
-    let mut at: usize = 0;
-    while at < digits.len() {
-        let digit = (digits[at] - b'0') as u64;
-        if n > (18446744073709551615 - digit) / 10 {
-            return Size::TooLarge;
+    for b in digits {
+        let digit = u64::from(*b - b'0');
+        if n > (u64::MAX - digit) / 10 {
+            return Err(NoNumber::TooLarge);
         }
         n = n * 10 + digit;
-        at += 1;
     }
-    Size::Of(n)
+    Ok(n)
 }
 
 // One digit at least, and nothing but digits.
-pub fn size_in(word: &[u8]) -> Size
+pub fn size_in(word: &[u8]) -> Result<u64, NoNumber>
     ensures { IsSize word.now result }
 {
-    if word.len() == 0 {
-        return Size::None;
+    if word.is_empty() || !all_digits(word) {
+        return Err(NoNumber::None);
     }
-    if all_digits(word) {
-        return value(word);
-    }
-    Size::None
+    value(word)
 }
 
 // A size with its sign, if 64 bits hold it.
-fn signed(negative: bool, n: u64) -> Number
+fn signed(negative: bool, n: u64) -> Result<i64, NoNumber>
     ensures { IsSigned negative n result }
 {
-    if n <= 9223372036854775807 {
-        let x = n as i64;
-        if negative {
-            return Number::Of(-x);
-        }
-        return Number::Of(x);
-    }
-    if negative {
-        if n == 9223372036854775808 {
-            return Number::Of(-9223372036854775808);
-        }
-    }
-    Number::TooLarge
+    let x = if negative {
+        0i64.checked_sub_unsigned(n)
+    } else {
+        0i64.checked_add_unsigned(n)
+    };
+    x.ok_or(NoNumber::TooLarge)
 }
 
-fn with_sign(negative: bool, digits: &[u8]) -> Number
+fn with_sign(negative: bool, digits: &[u8]) -> Result<i64, NoNumber>
     ensures { WithSign negative digits.now result }
 {
-    match size_in(digits) {
-        Size::Of(n) => signed(negative, n),
-        Size::TooLarge => Number::TooLarge,
-        Size::None => Number::None,
-    }
+    signed(negative, size_in(digits)?)
 }
 
 // A minus sign, if there is one, stands right before the digits.
-pub fn number_in(word: &[u8]) -> Number
+pub fn number_in(word: &[u8]) -> Result<i64, NoNumber>
     ensures { IsNumber word.now result }
 {
-    if word.len() == 0 {
-        return Number::None;
+    match word {
+        [b'-', digits @ ..] => with_sign(true, digits),
+        _ => with_sign(false, word),
     }
-    if word[0] == b'-' {
-        return with_sign(true, &word[1..]);
-    }
-    with_sign(false, word)
 }

@@ -1,10 +1,10 @@
 // Where something stands in a text: a byte, a word, what parts words.
-ghost use Rattle.std.specs.Prelude.{◌≡◌, ◌≤◌, length};
+ghost use Rattle.std.specs.Prelude.{◌≤◌, length};
 ghost use Rattle.whole.specs.Number.{Tells};
 ghost use Rattle.reading.specs.Places.{Gap, IsSought, FirstPlace};
 
 // What is looked for in a text.
-#[derive(Clone, Copy)]
+#[derive(Clone, Copy, Debug, PartialEq, Eq)]
 pub enum Sought {
     Byte(u8),
     Gap,
@@ -15,11 +15,7 @@ pub enum Sought {
 fn is_gap(b: u8) -> bool
     ensures { Tells (Gap b) result }
 {
-    match b {
-        b'\t' | b'\r' | b' ' | b',' => true,
-        b'('..=b')' => true,
-        _ => false,
-    }
+    matches!(b, b'\t' | b'\r' | b' ' | b',' | b'('..=b')')
 }
 
 fn is_sought(b: u8, sought: Sought) -> bool
@@ -37,29 +33,9 @@ pub fn find(text: &[u8], from: usize, sought: Sought) -> usize
     requires { from ≤ length text.now }
     ensures { FirstPlace text.now from sought result }
 {
-    let mut at = from;
-    while at < text.len() {
-        if is_sought(text[at], sought) {
-            return at;
-        }
-        at += 1;
+    let rest = &text[from..];
+    match rest.iter().position(|b| is_sought(*b, sought)) {
+        Some(skipped) => from + skipped,
+        None => text.len(),
     }
-    at
-}
-
-// Whether two words are the same.
-pub fn same(word: &[u8], other: &[u8]) -> bool
-    ensures { Tells (word.now ≡ other.now) result }
-{
-    if word.len() != other.len() {
-        return false;
-    }
-    let mut i: usize = 0;
-    while i < word.len() {
-        if word[i] != other[i] {
-            return false;
-        }
-        i += 1;
-    }
-    true
 }

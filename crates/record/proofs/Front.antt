@@ -13,17 +13,14 @@ use native.Mathlib.Nat.{zero-add, suc-add, zero-min, min-zero, suc-min-suc}
 use lib.Dec.{eqb, eqb-suc-suc, eqb-zero-suc}
 use lib.ListN.{length, get_or, take, drop, replicate, length-take, take-append-drop, get_or-append}
 use lib.Seq.{take_all, length-take-le, get_or-take}
+use Rattle.std.specs.Prelude.{Option, Some, None, Ok, Err}
 use borrow.Author.Tests.{ne_eqb, lt-ltb, le-ltb}
 use Rattle.refusal.specs.Answers.{when◌then◌else◌}
 use Rattle.refusal.proofs.Answers.{by_test, by_order}
 use Rattle.record.specs.Numbers.{size_of}
 use Rattle.record.specs.declared.kinds.Kind.{Kind}
-use Rattle.record.specs.declared.kinds.Named.{Named}
-use Rattle.record.specs.declared.kinds.Named.TheVariants as named_as
 use Rattle.record.specs.Kinds.{row_of, longest_record, kinds, words}
-use Rattle.record.specs.Records.{erased, erased_length, erased_bytes, erased_end, erased_step, kind_in, may_stand, sized_step, kind_step, step_of}
-use Rattle.record.specs.declared.steps.Step.{Step}
-use Rattle.record.specs.declared.steps.Step.TheVariants as step
+use Rattle.record.specs.Records.{Step, erased, erased_length, erased_bytes, erased_end, erased_step, kind_in, may_stand, sized_step, kind_step, step_of}
 use Rattle.record.proofs.Table.{row-known, same_kind}
 use Rattle.record.proofs.Erased.{all-erased}
 use Rattle.record.proofs.Shown.{step_record, step_may, record_step_lem, holds_same, ends_erased, coordinates-same}
@@ -73,20 +70,20 @@ erased-append (b ∷ front) more = append-more (eqb b erased) (length front) (er
 -- a step, by how many bytes FF come first, how many bytes are left, and the step of as many of them as the longest record has: only where that
 -- shows nothing but bytes FF does it matter what stands behind it
 abbrev pub step_by : ℕ → ℕ → Step → Step
-step_by erased_first left step.Ends = erased_end erased_first left
-step_by erased_first left (step.Fault r offset) = step.Fault r offset
-step_by erased_first left (step.Record k) = step.Record k
+step_by erased_first left (Ok None) = erased_end erased_first left
+step_by erased_first left (Err s) = Err s
+step_by erased_first left (Ok (Some k)) = Ok (Some k)
 
 -- ---- the step of bytes that are no longer than a front
 
-erased-whole : (n left : ℕ) → left ≤ n → erased_end n left ≡ step.Ends
+erased-whole : (n left : ℕ) → left ≤ n → erased_end n left ≡ Ok None
 unfolding erased_end when◌then◌else◌
 erased-whole n left l = rw (le-ltb n left l)
 
 own-step : (first : Bool) (bytes : List ℕ) (x : Step) → step_of first bytes ≡ x → x ≡ step_by (erased_bytes bytes) (length bytes) x
-own-step first bytes step.Ends e = let q = all-erased bytes (ends_erased first bytes e) in sym (erased-whole (erased_bytes bytes) (length bytes) (omega arith))
-own-step first bytes (step.Fault r offset) e = refl
-own-step first bytes (step.Record k) e = refl
+own-step first bytes (Ok None) e = let q = all-erased bytes (ends_erased first bytes e) in sym (erased-whole (erased_bytes bytes) (length bytes) (omega arith))
+own-step first bytes (Err s) e = refl
+own-step first bytes (Ok (Some k)) e = refl
 
 -- ---- the step of more bytes than that
 
@@ -133,10 +130,10 @@ module _ (first : Bool) (bytes : List ℕ) (long : longest_record < length bytes
         coordinates-same (words k) bytes front 4 4 (λ j l. same (4 + j) (omega (arith, known.short, known.holds))),
       )
 
-  kind-same : (x : Named) → kind_step first bytes x ≡ step_by (erased_bytes bytes) (length bytes) (kind_step first front x)
-  kind-same (named_as.Kind k) =
+  kind-same : (x : Option Kind) → kind_step first bytes x ≡ step_by (erased_bytes bytes) (length bytes) (kind_step first front x)
+  kind-same (Some k) =
       either (step_by (erased_bytes bytes) (length bytes)) (may_stand first k) (sized-stays (erased_bytes bytes) (length bytes) k bytes ∙ ap (step_by (erased_bytes bytes) (length bytes)) (sym (sized_same k))) refl
-  kind-same named_as.Unknown = refl
+  kind-same None = refl
 
   -- a byte that is not FF stands in the front, or the front tells nothing
   erased-same : erased_step bytes ≡ step_by (erased_bytes bytes) (length bytes) (erased_step front)
@@ -155,7 +152,7 @@ module _ (first : Bool) (bytes : List ℕ) (long : longest_record < length bytes
       let test : eqb (size_of front) erased_length ≡ eqb (size_of bytes) erased_length = ap (λ (n : ℕ). eqb n erased_length) size_same in
       let kind : kind_in kinds bytes ≡ kind_in kinds front = same_kind kinds bytes front (sym (same 2 (omega arith))) (sym (same 3 (omega arith))) in
       later first bytes (omega arith)
-      ∙ either by (eqb (size_of bytes) erased_length) erased-same (kind-same (kind_in kinds bytes) ∙ ap (λ (x : Named). by (kind_step first front x)) kind)
+      ∙ either by (eqb (size_of bytes) erased_length) erased-same (kind-same (kind_in kinds bytes) ∙ ap (λ (x : Option Kind). by (kind_step first front x)) kind)
       ∙ ap (λ (c : Bool). by (when c then erased_step front else kind_step first front (kind_in kinds front))) (sym test)
       ∙ ap by (sym (later first front (omega (arith, front_long))))
 
@@ -167,15 +164,15 @@ step_by_front first bytes =
 
 -- ---- records
 
-pub record_by_front : (first : Bool) (bytes : List ℕ) (k : Kind) → step_of first (take longest_record bytes) ≡ step.Record k → step_of first bytes ≡ step.Record k
+pub record_by_front : (first : Bool) (bytes : List ℕ) (k : Kind) → step_of first (take longest_record bytes) ≡ Ok (Some k) → step_of first bytes ≡ Ok (Some k)
 record_by_front first bytes k e = step_by_front first bytes ∙ ap (step_by (erased_bytes bytes) (length bytes)) e
 
-pub record_within : (first : Bool) (front more : List ℕ) (k : Kind) → step_of first (front ++ more) ≡ step.Record k → (row_of k).size ≤ length front → step_of first front ≡ step.Record k
+pub record_within : (first : Bool) (front more : List ℕ) (k : Kind) → step_of first (front ++ more) ≡ Ok (Some k) → (row_of k).size ≤ length front → step_of first front ≡ Ok (Some k)
 record_within first front more k e l =
     record_step_lem first k front (step_may first (front ++ more) k e)
     (holds_same k (front ++ more) front l (λ i m. sym (get_or-append front more 0 i (omega arith))) (step_record first (front ++ more) k e))
 
-pub front_by_record : (first : Bool) (bytes : List ℕ) (k : Kind) → step_of first bytes ≡ step.Record k → step_of first (take longest_record bytes) ≡ step.Record k
+pub front_by_record : (first : Bool) (bytes : List ℕ) (k : Kind) → step_of first bytes ≡ Ok (Some k) → step_of first (take longest_record bytes) ≡ Ok (Some k)
 front_by_record first bytes k e =
     let fits = (step_record first bytes k e).fits in
     record_within first (take longest_record bytes) (drop longest_record bytes) k (ap (step_of first) (take-append-drop longest_record bytes) ∙ e)

@@ -10,8 +10,8 @@ use native.Mathlib.Omega.{arith}
 use lib.ListN.{length, get_or}
 use Rattle.curve.specs.declared.Curve.{Curve}
 use Rattle.curve.specs.Curves.{points_of}
-use Rattle.record.specs.declared.writes.Put.{Put}
-use Rattle.record.specs.declared.writes.Put.TheVariants as put
+use Rattle.std.specs.Prelude.{Result, Ok, Err}
+use Rattle.refusal.specs.declared.Refusal.{Refusal}
 use Rattle.record.specs.Kinds.{row_of, kind_of, numbers_of, record_of}
 use Rattle.record.specs.Promise.{bytes_after, PutsAt}
 use Rattle.record.proofs.Table.{row-known}
@@ -26,9 +26,9 @@ pub record Kept (s t : List ℕ) (from to : ℕ) : Type 0 where
 pub kept-all : {s t : List ℕ} {from to : ℕ} → t ≡ s → Kept s t from to
 kept-all e = record { same_length = ap length e; elsewhere = λ i _. ap (λ (l : List ℕ). get_or l i 0) e }
 
-pub put-kept : (s : List ℕ) (at : ℕ) (c : Curve) (t : List ℕ) (r : Put) → PutsAt s at (kind_of c) (numbers_of (points_of c)) t r → Kept s t at (at + (row_of (kind_of c)).size)
-put-kept s at c t (put.Refused r) h = kept-all (h.leaves ∙ ap (bytes_after s) (sym h.says))
-put-kept s at c t put.Done h =
+pub put-kept : (s : List ℕ) (at : ℕ) (c : Curve) (t : List ℕ) (r : Result (Unit {0}) Refusal) → PutsAt s at (kind_of c) (numbers_of (points_of c)) t r → Kept s t at (at + (row_of (kind_of c)).size)
+put-kept s at c t (Err r) h = kept-all (h.leaves ∙ ap (bytes_after s) (sym h.says))
+put-kept s at c t (Ok _) h =
     let (_, room, is) = done_by s at (kind_of c) (numbers_of (points_of c)) t h.says in
     let fits : at + length (record_of c) ≤ length s = omega (arith, record_long c, room, (row-known (kind_of c)).long) in
     let there : at ≤ length s = omega arith in

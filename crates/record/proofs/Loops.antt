@@ -1,5 +1,4 @@
 -- What the loops over bytes and numbers carry from turn to turn: the definition from here on equals the definition from the start.
---   erased-all, erased_stop, erased-more    the bytes FF that a list begins with
 --   within_none, within_fail, within_pass   the coordinates of a record, with what was seen of them
 --   numbers-none, numbers_fail, numbers_pass, numbers-at   a list of numbers
 use mathlib.Core.Path.{◌≡◌, sym}
@@ -13,27 +12,12 @@ use lib.Dec.{leb}
 use lib.IntN.{ℤ, pos, nat_abs}
 use lib.ListN.{length, get_or, drop, drop_of_length-le}
 use lib.Seq.{drop-cons}
-use borrow.Author.Tests.{eq-eqb, ne_eqb, leb-true}
+use borrow.Author.Tests.{leb-true}
 use Rattle.whole.specs.Number.{Within}
-use Rattle.refusal.specs.Answers.{when◌then◌else◌}
 use Rattle.curve.specs.Sizes.{coordinate_reach}
 use Rattle.record.specs.Numbers.{word_at, signed_of, coordinates}
-use Rattle.record.specs.Records.{erased, erased_bytes, all_within}
+use Rattle.record.specs.Records.{all_within}
 use Rattle.refusal.proofs.Answers.{both_true}
-
--- ---- the erased bytes
-
-pub erased-all : (s : List ℕ) (i : ℕ) → length s ≤ i → i ≡ i + erased_bytes (drop i s)
-unfolding when◌then◌else◌
-erased-all s i h = rw (drop_of_length-le s {i = i} h) (omega arith)
-
-pub erased_stop : (s : List ℕ) (i : ℕ) → i < length s → (get_or s i 0 ≡ erased → ⊥) → i ≡ i + erased_bytes (drop i s)
-unfolding when◌then◌else◌
-erased_stop s i h k = rw (drop-cons s i 0 h, ne_eqb _ _ k) (omega arith)
-
-pub erased-more : (s : List ℕ) (i : ℕ) → i < length s → get_or s i 0 ≡ erased → i + 1 + erased_bytes (drop (i + 1) s) ≡ i + erased_bytes (drop i s)
-unfolding when◌then◌else◌
-erased-more s i h k = rw (drop-cons s i 0 h, eq-eqb _ _ k, add-one) (omega arith)
 
 -- ---- a record's coordinates: whether those seen are within the range, and what is left of them
 

@@ -1,27 +1,19 @@
 -- Lists that are written over.
---   put_four                   four stores in a row are one piece
 --   written-long, written-before, written_behind   a piece changes neither the length nor a byte elsewhere
 --   written_twice              a piece and another behind it are one piece
 --   encoded-long               how many bytes numbers take
---   words-none, words_more, words-all   the numbers of a record, written one after another
+--   words_more, words-all       the numbers of a record, written one after another
 use mathlib.Core.Path.{◌≡◌, refl, sym, ap, ◌∙◌}
 use mathlib.Core.List.{List, [], ◌∷◌, ◌++◌, append_assoc, append-nil}
 use Prim.Native.Nat.{ℕ, ◌+◌, ◌-◌, ◌*◌, ◌≤◌, ◌<◌}
 use native.Mathlib.Omega.{arith}
-use native.Mathlib.Numerals.{add-one, add-two, add-three}
+use native.Mathlib.Numerals.{add-one}
 use lib.IntN.{ℤ, pos}
-use lib.ListN.{length, take, drop, set, get_or, length-append, length-drop, drop_of_length-le, take-append-drop, get_or-append}
-use lib.Seq.{sets-eq, take-suc, take-length, length-take-le, take_at, drop-drop, drop-append-add, get_or-take, get_or-drop, get_or-append-add}
+use lib.ListN.{length, take, drop, get_or, length-append, length-drop, drop_of_length-le, get_or-append}
+use lib.Seq.{take-suc, take-length, length-take-le, take_at, drop-drop, drop-append-add, get_or-take, get_or-drop, get_or-append-add}
 use Rattle.record.specs.Numbers.{bits, word_bytes, encoded, written}
 
 -- ---- a piece
-
-pub put_four :
-    (s : List ℕ) (at a b c d : ℕ) → at + 4 ≤ length s →
-    set (set (set (set s at a) (at + 1) b) (at + 2) c) (at + 3) d ≡ written s at (a ∷ b ∷ c ∷ d ∷ [])
-put_four s at a b c d l =
-    rw (add-one at, add-two at, add-three at)
-    (sets-eq (a ∷ b ∷ c ∷ d ∷ []) s at l ∙ append_assoc (take at s) (a ∷ b ∷ c ∷ d ∷ []) (drop (at + 4) s))
 
 -- what is written over a list changes neither its length nor a byte elsewhere
 pub written-long : (s : List ℕ) (at : ℕ) (x : List ℕ) → at + length x ≤ length s → length (written s at x) ≡ length s
@@ -77,9 +69,6 @@ written_twice s at a b l =
     ∙ ap (λ (r : List ℕ). (take at s ++ a) ++ (b ++ r)) kept
     ∙ append_assoc (take at s) a (b ++ drop (at + length (a ++ b)) s)
     ∙ ap (λ (r : List ℕ). take at s ++ r) (sym (append_assoc a b (drop (at + length (a ++ b)) s)))
-
-pub words-none : (s : List ℕ) → s ≡ written s 4 []
-words-none s = sym (take-append-drop 4 s)
 
 module _ (s : List ℕ) (xs : List ℤ) (fits : length s ≡ 4 + 4 * length xs) where
   pub words_more :

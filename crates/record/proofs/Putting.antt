@@ -1,8 +1,7 @@
 -- What is said and left where a record is written at a place.
 --   put_back                     a part that was lent and came back is a piece
 --   at_range, at_room, at_done   by the tests.      done_by   where it is done, no test stood in the way
---   of_curve                     a curve's record, as the code has it: by the curve's case, and its numbers
-use mathlib.Core.Path.{◌≡◌, sym, ap, ◌∙◌, subst}
+use mathlib.Core.Path.{◌≡◌, ap, ◌∙◌}
 use mathlib.Core.Bool.{true, false}
 use mathlib.Core.List.{List, ◌++◌}
 use Prim.Native.Nat.{ℕ, ◌+◌, ◌-◌, ◌≤◌, ◌<◌}
@@ -14,13 +13,10 @@ use borrow.Author.Tests.{lt-ltb, le-ltb, ltb-false, not-false}
 use Rattle.refusal.specs.declared.Refusal.TheVariants as refusal
 use Rattle.refusal.specs.Answers.{Answer, given, when◌then◌else◌}
 use Rattle.refusal.proofs.Answers.{by_test, no_answer, given_once}
-use Rattle.curve.specs.declared.Curve.{Curve}
-use Rattle.curve.specs.Curves.{points_of}
 use Rattle.record.specs.declared.kinds.Kind.{Kind}
-use Rattle.record.specs.declared.writes.Put.{Put}
-use Rattle.record.specs.declared.writes.Put.TheVariants as put
+use Rattle.std.specs.Prelude.{Ok, Err}
 use Rattle.record.specs.Numbers.{encoded, written}
-use Rattle.record.specs.Kinds.{row_of, kind_of, numbers_of, formed}
+use Rattle.record.specs.Kinds.{row_of, formed}
 use Rattle.record.specs.Records.{all_within}
 use Rattle.record.specs.Promise.{putting_at, PutsAt}
 
@@ -30,15 +26,15 @@ put_back s at n x e =
     ap (λ (r : List ℕ). take at s ++ (x ++ r)) (drop-drop (at + n - at) at s ∙ ap (λ (m : ℕ). drop m s) k)
 
 module _ (s : List ℕ) (at : ℕ) (k : Kind) (xs : List ℤ) where
-  pub at_range : all_within xs ≡ false → PutsAt s at k xs s (put.Refused refusal.Range)
+  pub at_range : all_within xs ≡ false → PutsAt s at k xs s (Err refusal.Range)
   unfolding putting_at when◌then◌else◌
   at_range w = record { says = rw w; leaves = rw w }
 
-  pub at_room : all_within xs ≡ true → length s - at < (row_of k).size → PutsAt s at k xs s (put.Refused refusal.Room)
+  pub at_room : all_within xs ≡ true → length s - at < (row_of k).size → PutsAt s at k xs s (Err refusal.Room)
   unfolding putting_at when◌then◌else◌
   at_room w l = record { says = rw (w, lt-ltb _ _ l); leaves = rw (w, lt-ltb _ _ l) }
 
-  pub at_done : all_within xs ≡ true → (row_of k).size ≤ length s - at → {t : List ℕ} → t ≡ written s at (formed k (encoded xs)) → PutsAt s at k xs t put.Done
+  pub at_done : all_within xs ≡ true → (row_of k).size ≤ length s - at → {t : List ℕ} → t ≡ written s at (formed k (encoded xs)) → PutsAt s at k xs t (Ok tt)
   unfolding putting_at when◌then◌else◌
   at_done w l e = record { says = rw (w, le-ltb _ _ l) (ap given e); leaves = rw (w, le-ltb _ _ l) e }
 
@@ -48,8 +44,3 @@ module _ (s : List ℕ) (at : ℕ) (k : Kind) (xs : List ℤ) where
     where
       Done : Answer (List ℕ) → Type 0
       Done a = given t ≡ a → (all_within xs ≡ true) × ((row_of k).size ≤ length s - at) × (t ≡ written s at (formed k (encoded xs)))
-
-pub of_curve : (s : List ℕ) (at : ℕ) {curve : Curve} (c : Curve) {xs : List ℤ} {t : List ℕ} {r : Put} → curve ≡ c → xs ≡ numbers_of (points_of c)
-    → PutsAt s at (kind_of c) xs t r → PutsAt s at (kind_of curve) (numbers_of (points_of curve)) t r
-of_curve s at c {t = t} {r = r} e q g =
-    subst (λ (x : Curve). PutsAt s at (kind_of x) (numbers_of (points_of x)) t r) (sym e) (subst (λ (ys : List ℤ). PutsAt s at (kind_of c) ys t r) q g)

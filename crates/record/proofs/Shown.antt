@@ -16,6 +16,7 @@ use Prim.Native.Nat.{ℕ, ◌+◌, ◌*◌, ◌≤◌, ◌<◌}
 use native.Mathlib.Omega.{arith}
 use lib.ListN.{length, get_or, take, length-append, get_or-append}
 use lib.Seq.{length-take-le, get_or-take}
+use Rattle.std.specs.Prelude.{Option, Some, None, Ok}
 use borrow.Author.Tests.{eqb-true, eqb-false, ltb-true, ltb-false, eq-eqb, ne_eqb, le-ltb, not-false}
 use Rattle.refusal.specs.declared.Refusal.{Refusal}
 use Rattle.refusal.specs.declared.Refusal.TheVariants as refusal
@@ -23,12 +24,8 @@ use Rattle.refusal.specs.Table.{number_of}
 use Rattle.refusal.specs.Answers.{when◌then◌else◌}
 use Rattle.record.specs.Numbers.{size_of, signed_of, coordinates}
 use Rattle.record.specs.declared.kinds.Kind.{Kind}
-use Rattle.record.specs.declared.kinds.Named.{Named}
-use Rattle.record.specs.declared.kinds.Named.TheVariants as named_as
 use Rattle.record.specs.Kinds.{row_of, kinds, words}
-use Rattle.record.specs.Records.{erased, erased_length, erased_bytes, erased_end, erased_step, named, kind_in, may_stand, all_within, sized_step, kind_step, step_of}
-use Rattle.record.specs.declared.steps.Step.{Step}
-use Rattle.record.specs.declared.steps.Step.TheVariants as step
+use Rattle.record.specs.Records.{Step, slip, erased, erased_length, erased_bytes, erased_end, erased_step, named, kind_in, may_stand, all_within, sized_step, kind_step, step_of}
 use Rattle.refusal.proofs.Answers.{by_test}
 use Rattle.record.proofs.Table.{row-known, known-kind, named-is}
 use Rattle.record.proofs.Words.{words_same, coordinates-words}
@@ -41,10 +38,10 @@ pub record Holds (k : Kind) (bytes : List ℕ) : Type 0 where
   pub range : all_within (coordinates (words k) bytes 4) ≡ true
 
 pub data Shown (first : Bool) (bytes : List ℕ) : Step → Type 0 where
-  ends : AllErased bytes → Shown first bytes step.Ends
-  leftover : {offset : ℕ} → FirstLeft bytes 0 offset → Shown first bytes (step.Fault refusal.Leftover offset)
-  faults : {r : Refusal} → (number_of r ≡ number_of refusal.Leftover → ⊥) → Shown first bytes (step.Fault r 0)
-  holds : {k : Kind} → may_stand first k ≡ true → Holds k bytes → Shown first bytes (step.Record k)
+  ends : AllErased bytes → Shown first bytes (Ok None)
+  leftover : {offset : ℕ} → FirstLeft bytes 0 offset → Shown first bytes (slip refusal.Leftover offset)
+  faults : {r : Refusal} → (number_of r ≡ number_of refusal.Leftover → ⊥) → Shown first bytes (slip r 0)
+  holds : {k : Kind} → may_stand first k ≡ true → Holds k bytes → Shown first bytes (Ok (Some k))
 
 -- ---- from the step to the bytes
 
@@ -57,9 +54,9 @@ module _ (first : Bool) (bytes : List ℕ) where
       by_test (Shown first bytes) _ (λ _. faults (λ q. omega arith)) (λ v.
       holds m (record { fits = ltb-false _ _ l; size_is = eqb-true _ _ (not-false _ s); name_is = n; range = not-false _ v }))))
 
-  kind_shown : (x : Named) → kind_in kinds bytes ≡ x → Shown first bytes (kind_step first bytes x)
-  kind_shown (named_as.Kind k) e = by_test (Shown first bytes) _ (λ m. sized_shown k m (named-is kinds bytes k e)) (λ _. faults {r = refusal.Kind} (λ q. omega arith))
-  kind_shown named_as.Unknown e = faults {r = refusal.Kind} (λ q. omega arith)
+  kind_shown : (x : Option Kind) → kind_in kinds bytes ≡ x → Shown first bytes (kind_step first bytes x)
+  kind_shown (Some k) e = by_test (Shown first bytes) _ (λ m. sized_shown k m (named-is kinds bytes k e)) (λ _. faults {r = refusal.Kind} (λ q. omega arith))
+  kind_shown None e = faults {r = refusal.Kind} (λ q. omega arith)
 
   erased_shown : Shown first bytes (erased_step bytes)
   unfolding erased_step erased_end
@@ -77,41 +74,41 @@ module _ (first : Bool) (bytes : List ℕ) where
       by_test (Shown first bytes) _ (λ _. erased_shown) (λ _.
       by_test (Shown first bytes) _ (λ _. faults (λ q. omega arith)) (λ _. kind_shown (kind_in kinds bytes) refl))))
 
-held_in : {first : Bool} {bytes : List ℕ} {k : Kind} → Shown first bytes (step.Record k) → (may_stand first k ≡ true) × Holds k bytes
+held_in : {first : Bool} {bytes : List ℕ} {k : Kind} → Shown first bytes (Ok (Some k)) → (may_stand first k ≡ true) × Holds k bytes
 held_in (holds m h) = (m, h)
 
-pub step_record : (first : Bool) (bytes : List ℕ) (k : Kind) → step_of first bytes ≡ step.Record k → Holds k bytes
+pub step_record : (first : Bool) (bytes : List ℕ) (k : Kind) → step_of first bytes ≡ Ok (Some k) → Holds k bytes
 step_record first bytes k e = (held_in (subst (Shown first bytes) e (shown first bytes))).1
 
-pub step_may : (first : Bool) (bytes : List ℕ) (k : Kind) → step_of first bytes ≡ step.Record k → may_stand first k ≡ true
+pub step_may : (first : Bool) (bytes : List ℕ) (k : Kind) → step_of first bytes ≡ Ok (Some k) → may_stand first k ≡ true
 step_may first bytes k e = (held_in (subst (Shown first bytes) e (shown first bytes))).0
 
-erased_in : {first : Bool} {bytes : List ℕ} → Shown first bytes step.Ends → AllErased bytes
+erased_in : {first : Bool} {bytes : List ℕ} → Shown first bytes (Ok None) → AllErased bytes
 erased_in (ends f) = f
 
-pub ends_erased : (first : Bool) (bytes : List ℕ) → step_of first bytes ≡ step.Ends → AllErased bytes
+pub ends_erased : (first : Bool) (bytes : List ℕ) → step_of first bytes ≡ Ok None → AllErased bytes
 ends_erased first bytes e = erased_in (subst (Shown first bytes) e (shown first bytes))
 
-near_in : {first : Bool} {bytes : List ℕ} {r : Refusal} {offset : ℕ} → Shown first bytes (step.Fault r offset) → offset ≤ length bytes
+near_in : {first : Bool} {bytes : List ℕ} {r : Refusal} {offset : ℕ} → Shown first bytes (slip r offset) → offset ≤ length bytes
 near_in (leftover f) = omega (arith, f.inside)
 near_in (faults n) = omega arith
 
-pub fault_near : (first : Bool) (bytes : List ℕ) (r : Refusal) (offset : ℕ) → step_of first bytes ≡ step.Fault r offset → offset ≤ length bytes
+pub fault_near : (first : Bool) (bytes : List ℕ) (r : Refusal) (offset : ℕ) → step_of first bytes ≡ slip r offset → offset ≤ length bytes
 fault_near first bytes r offset e = near_in (subst (Shown first bytes) e (shown first bytes))
 
 -- where a fault stands: LEFTOVER at the first byte that is not FF, every other at the record's first byte
-placed_in : {first : Bool} {bytes : List ℕ} {r : Refusal} {offset : ℕ} → Shown first bytes (step.Fault r offset) →
+placed_in : {first : Bool} {bytes : List ℕ} {r : Refusal} {offset : ℕ} → Shown first bytes (slip r offset) →
     (r ≡ refusal.Leftover → FirstLeft bytes 0 offset) × ((r ≡ refusal.Leftover → ⊥) → offset ≡ 0)
 placed_in (leftover f) = (λ _. f, λ n. absurd (n refl))
 placed_in (faults n) = (λ q. absurd (n (ap number_of q)), λ _. refl)
 
-pub fault_placed : (first : Bool) (bytes : List ℕ) (r : Refusal) (offset : ℕ) → step_of first bytes ≡ step.Fault r offset →
+pub fault_placed : (first : Bool) (bytes : List ℕ) (r : Refusal) (offset : ℕ) → step_of first bytes ≡ slip r offset →
     (r ≡ refusal.Leftover → FirstLeft bytes 0 offset) × ((r ≡ refusal.Leftover → ⊥) → offset ≡ 0)
 fault_placed first bytes r offset e = placed_in (subst (Shown first bytes) e (shown first bytes))
 
 -- ---- from the bytes to the step
 
-pub record_step_lem : (first : Bool) (k : Kind) (bytes : List ℕ) → may_stand first k ≡ true → Holds k bytes → step_of first bytes ≡ step.Record k
+pub record_step_lem : (first : Bool) (k : Kind) (bytes : List ℕ) → may_stand first k ≡ true → Holds k bytes → step_of first bytes ≡ Ok (Some k)
 unfolding step_of sized_step when◌then◌else◌
 record_step_lem first k bytes m h =
     let z = row-known k in
@@ -129,7 +126,7 @@ record_step_lem first k bytes m h =
       h.range,
     )
 
-pub erased_ends : (first : Bool) (bytes : List ℕ) → AllErased bytes → step_of first bytes ≡ step.Ends
+pub erased_ends : (first : Bool) (bytes : List ℕ) → AllErased bytes → step_of first bytes ≡ Ok None
 unfolding step_of erased_step erased_end
 erased_ends first bytes f =
     by_test Is _ (λ _. refl) (λ z.
@@ -143,7 +140,7 @@ erased_ends first bytes f =
     (λ d. absurd (eqb-false (size_of bytes) erased_length d (omega arith)))))
   where
     Is : Step → Type 0
-    Is x = x ≡ step.Ends
+    Is x = x ≡ Ok None
 
     beyond : {a b : ℕ} → a < b → a ≡ b → ⊥
     beyond l e = omega arith
@@ -170,12 +167,12 @@ pub record Whole (k : Kind) (x : List ℕ) : Type 0 where
   pub long : length x ≡ (row_of k).size
   pub here : Holds k x
 
-pub whole-step : (first : Bool) {k : Kind} {x : List ℕ} → may_stand first k ≡ true → Whole k x → (t : List ℕ) → step_of first (x ++ t) ≡ step.Record k
+pub whole-step : (first : Bool) {k : Kind} {x : List ℕ} → may_stand first k ≡ true → Whole k x → (t : List ℕ) → step_of first (x ++ t) ≡ Ok (Some k)
 whole-step first {k} {x} m w t =
     record_step_lem first k (x ++ t) m
     (holds_same k x (x ++ t) (omega (arith, length-append x t, w.long)) (λ i m. get_or-append x t 0 i (omega (arith, w.long))) w.here)
 
-pub step-whole : (first : Bool) (bytes : List ℕ) (k : Kind) → step_of first bytes ≡ step.Record k → Whole k (take (row_of k).size bytes) × (4 < (row_of k).size) × ((row_of k).size ≤ length bytes)
+pub step-whole : (first : Bool) (bytes : List ℕ) (k : Kind) → step_of first bytes ≡ Ok (Some k) → Whole k (take (row_of k).size bytes) × (4 < (row_of k).size) × ((row_of k).size ≤ length bytes)
 step-whole first bytes k e =
     let h = step_record first bytes k e in
     let l = h.fits in

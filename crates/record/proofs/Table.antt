@@ -4,24 +4,23 @@
 --   named-is         a name that was found is that of the kind
 --   known-kind       and the name of a kind is found as that kind's
 --   own_name         a record with a kind's name is named so
---   head_of, head_of_row, head-formed   the head of a record, by the four bytes of its row.      head_body   what stands behind it
+--   head_of, head_of_row, head-formed   the head of a record, by the four bytes of its row.
 use mathlib.Core.Path.{◌≡◌, refl, ap, ◌∙◌, sym}
 use mathlib.Core.Bool.{true, false≢true}
 use mathlib.Core.List.{List, [], ◌∷◌, ◌++◌, append-nil}
 use Prim.Native.Nat.{ℕ, ◌+◌, ◌*◌, ◌/◌, ◌%◌, ◌≤◌, ◌<◌}
 use native.Mathlib.Omega.{arith}
-use lib.ListN.{get_or, take, drop}
-use lib.Seq.{take_at}
+use lib.ListN.{get_or}
 use borrow.Author.Tests.{eqb-true}
+use Rattle.std.proofs.lemmas.Option.{none-some}
 use lib.Dec.{eqb}
 use Rattle.refusal.specs.Answers.{when◌then◌else◌}
 use Rattle.refusal.proofs.Answers.{by_test, both_true}
 use Rattle.record.specs.declared.kinds.Kind.{Kind}
 use Rattle.record.specs.declared.kinds.Kind.TheVariants.{Header, Cubic, Quintic}
-use Rattle.record.specs.declared.kinds.Named.{Named}
-use Rattle.record.specs.declared.kinds.Named.TheVariants as named_as
+use Rattle.std.specs.Prelude.{Option, Some}
 use Rattle.record.specs.declared.kinds.Row.{Row}
-use Rattle.record.specs.Numbers.{word_bytes, written, AllBytes}
+use Rattle.record.specs.Numbers.{word_bytes, AllBytes}
 use Rattle.record.specs.Kinds.{row_of, longest_record, kinds, words, formed}
 use Rattle.record.specs.Steps.{head_word}
 use Rattle.record.specs.Records.{named, kind_in}
@@ -32,7 +31,7 @@ head a b = 0 ∷ 0 ∷ a ∷ b ∷ []
 
 pub record RowKnown (k : Kind) : Type 0 where
   pub two : (row_of k).name ≡ get_or (row_of k).name 0 0 ∷ get_or (row_of k).name 1 0 ∷ []
-  pub found : kind_in kinds (head (get_or (row_of k).name 0 0) (get_or (row_of k).name 1 0)) ≡ named_as.Kind k
+  pub found : kind_in kinds (head (get_or (row_of k).name 0 0) (get_or (row_of k).name 1 0)) ≡ Some k
   pub name_bytes : AllBytes (row_of k).name
   pub head_is : word_bytes (head_word k) ≡ formed k []
   pub long : 4 < (row_of k).size
@@ -56,20 +55,17 @@ unfolding kind_in
 same_kind [] s t p q = refl
 same_kind (k ∷ ks) s t p q = rw (same_name k s t p q, same_kind ks s t p q)
 
-pub known-kind : (k : Kind) (s : List ℕ) → named k s ≡ true → kind_in kinds s ≡ named_as.Kind k
+pub known-kind : (k : Kind) (s : List ℕ) → named k s ≡ true → kind_in kinds s ≡ Some k
 unfolding named
 known-kind k s n =
     let m = both_true (eqb (get_or s 2 0) (get_or (row_of k).name 0 0)) (eqb (get_or s 3 0) (get_or (row_of k).name 1 0)) n in
     same_kind kinds s (head (get_or (row_of k).name 0 0) (get_or (row_of k).name 1 0)) (eqb-true _ _ m.0) (eqb-true _ _ m.1) ∙ (row-known k).found
 
-pub named-is : (ks : List Kind) (s : List ℕ) (k : Kind) → kind_in ks s ≡ named_as.Kind k → named k s ≡ true
+pub named-is : (ks : List Kind) (s : List ℕ) (k : Kind) → kind_in ks s ≡ Some k → named k s ≡ true
 unfolding kind_in
-named-is [] s k e = absurd (unknown e)
-  where
-    unknown : named_as.Unknown ≡ named_as.Kind k → ⊥
-    unknown e = let z : ◌≡◌ {A = ℕ} 0 1 = cc in omega arith
+named-is [] s k e = absurd (none-some k e)
 named-is (l ∷ ks) s k e =
-    by_test (λ (x : Named). x ≡ named_as.Kind k → named k s ≡ true) (named l s)
+    by_test (λ (x : Option Kind). x ≡ Some k → named k s ≡ true) (named l s)
     (λ t q. let same : l ≡ k = cc in ap (λ (m : Kind). named m s) (sym same) ∙ t)
     (λ _ q. named-is ks s k q) e
 
@@ -89,9 +85,3 @@ head_of_row k body = ap (λ (name : List ℕ). ((row_of k).size % 256 ∷ (row_o
 
 pub head-formed : (k : Kind) {r : Row} → r ≡ row_of k → head_of r ≡ formed k []
 head-formed k e = ap head_of e ∙ sym (append-nil (head_of (row_of k))) ∙ head_of_row k []
-
-pub head_body : (k : Kind) (s body : List ℕ) → take 4 (written s 0 (formed k [])) ++ body ≡ formed k body
-head_body k s body =
-    ap (λ (h : List ℕ). take 4 (written s 0 h) ++ body) (sym (head-formed k refl))
-    ∙ ap (λ (h : List ℕ). h ++ body) (take_at (head_of (row_of k)) (drop 4 s) 4 refl)
-    ∙ head_of_row k body

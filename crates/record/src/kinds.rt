@@ -8,23 +8,16 @@ use crate::numbers::half_at;
 // No kind's record has more bytes than this.
 pub const LONGEST_RECORD: usize = 52;
 
-#[derive(Clone, Copy)]
+#[derive(Clone, Copy, Debug, PartialEq, Eq)]
 pub enum Kind {
     Header,
     Cubic,
     Quintic,
 }
 
-// What the two bytes after a record's length name.
-#[derive(Clone, Copy)]
-pub enum Named {
-    Kind(Kind),
-    Unknown,
-}
-
 // A kind's name, the length of its records, whether a sheet begins with one and has no other, whether what they hold are coordinates, and
 // whether they are curves.
-#[derive(Clone, Copy)]
+#[derive(Clone, Copy, Debug, PartialEq, Eq)]
 pub struct Row {
     pub name: [u8; 2],
     pub size: usize,
@@ -66,8 +59,8 @@ pub(crate) fn head_word(kind: Kind) -> u64
     ensures { result ≡ head_word kind }
 {
     let row = row_of(kind);
-    let name = row.name;
-    row.size as u64 + 65536 * half_at(&name, 0)
+    // `as`: no From leads from a usize to a u64.
+    row.size as u64 + 65536 * u64::from(half_at(&row.name, 0))
 }
 
 // How many coordinates a record of the kind holds.

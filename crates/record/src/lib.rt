@@ -10,5 +10,5 @@ mod writes;
 pub use kinds::{Kind, LONGEST_RECORD, row_of};
 pub use numbers::{mission_in, put_word, word_at};
 pub use points::{Held, cubic_numbers, held_curve, kind_of, quintic_numbers};
-pub use steps::{ERASED, LONGEST, Step, erased_bytes, erased_end, step_of};
-pub use writes::{Put, put_curve, put_header};
+pub use steps::{ERASED, LONGEST, Slip, erased_bytes, erased_end, step_of};
+pub use writes::{put_curve, put_header};

@@ -9,17 +9,17 @@ ghost use Rattle.record.specs.Kinds.{row_of, kind_of, numbers_of, points_in};
 ghost use Rattle.record.specs.Promise.{IsHeld};
 ghost use Rattle.record.specs.Steps.{HeldAs};
 
-use crate::kinds::{Kind, Named, row_of};
+use crate::kinds::{Kind, row_of};
 use crate::numbers::{signed, word_at};
 use crate::steps::kind_in;
 use curve::{Cubic, Curve, Quintic};
 use pair::Pair;
 
-// A curve and how many bytes its record has, or that the bytes begin with no curve's record.
-#[derive(Clone, Copy)]
-pub enum Held {
-    Curve { curve: Curve, size: usize },
-    None,
+// A curve and how many bytes its record has.
+#[derive(Clone, Copy, Debug, PartialEq, Eq)]
+pub struct Held {
+    pub curve: Curve,
+    pub size: usize,
 }
 
 pub fn kind_of(curve: Curve) -> Kind
@@ -31,14 +31,11 @@ pub fn kind_of(curve: Curve) -> Kind
     }
 }
 
-// A cubic's coordinates, x then y of each point.
+// A cubic's coordinates, x then y of each point. Its own function and not one for both kinds: twice a const parameter can't be computed.
 pub fn cubic_numbers(c: Cubic) -> [i64; 8]
     ensures { result ≡ numbers_of (points_of (curves.Cubic c)) }
 {
-    let p0 = c.p0;
-    let p1 = c.p1;
-    let p2 = c.p2;
-    let p3 = c.p3;
+    let Cubic { p0, p1, p2, p3 } = c;
     [p0.re, p0.im, p1.re, p1.im, p2.re, p2.im, p3.re, p3.im]
 }
 
@@ -46,12 +43,14 @@ pub fn cubic_numbers(c: Cubic) -> [i64; 8]
 pub fn quintic_numbers(c: Quintic) -> [i64; 12]
     ensures { result ≡ numbers_of (points_of (curves.Quintic c)) }
 {
-    let p0 = c.p0;
-    let p1 = c.p1;
-    let p2 = c.p2;
-    let p3 = c.p3;
-    let p4 = c.p4;
-    let p5 = c.p5;
+    let Quintic {
+        p0,
+        p1,
+        p2,
+        p3,
+        p4,
+        p5,
+    } = c;
     [
         p0.re, p0.im, p1.re, p1.im, p2.re, p2.im, p3.re, p3.im, p4.re, p4.im, p5.re, p5.im,
     ]
@@ -68,6 +67,8 @@ fn point_at(bytes: &[u8], at: usize) -> Pair
     }
 }
 
+// Its own function and not one for both kinds: the points are fields by name, so each kind lists its own. And a clause and not an array of 36
+// bytes: the table alone knows a kind's length.
 fn cubic_in(bytes: &[u8]) -> Cubic
     requires { length bytes.now ≡ (row_of kinds.Cubic).size }
     ensures { points_of (curves.Cubic result) ≡ points_in bytes.now }
@@ -94,39 +95,32 @@ fn quintic_in(bytes: &[u8]) -> Quintic
     }
 }
 
-// The curve that a record's bytes hold.
-fn held_in(bytes: &[u8], kind: Kind) -> Held
+// The curve that a record's bytes hold, unless it is a header's.
+fn held_in(bytes: &[u8], kind: Kind) -> Option<Held>
     requires { length bytes.now ≡ (row_of kind).size }
     ensures { HeldAs kind bytes.now result }
 {
     let size = bytes.len();
     match kind {
-        Kind::Header => Held::None,
-        Kind::Cubic => Held::Curve {
+        Kind::Header => None,
+        Kind::Cubic => Some(Held {
             curve: Curve::Cubic(cubic_in(bytes)),
             size,
-        },
-        Kind::Quintic => Held::Curve {
+        }),
+        Kind::Quintic => Some(Held {
             curve: Curve::Quintic(quintic_in(bytes)),
             size,
-        },
+        }),
     }
 }
 
 // The curve whose record the bytes begin with, as its kind's name says. That the record is sound is what `step_of` tells.
-pub fn held_curve(rest: &[u8]) -> Held
+pub fn held_curve(rest: &[u8]) -> Option<Held>
     ensures { IsHeld rest.now result }
 {
     if rest.len() < 4 {
-        return Held::None;
+        return None;
     }
-    let Named::Kind(kind) = kind_in(rest) else {
-        return Held::None;
-    };
-    let row = row_of(kind);
-    let size = row.size;
-    if rest.len() < size {
-        return Held::None;
-    }
-    held_in(&rest[..size], kind)
+    let kind = kind_in(rest)?;
+    held_in(rest.get(..row_of(kind).size)?, kind)
 }

@@ -4,6 +4,7 @@
 --   given_once, refused_once        one answer gives one thing, or is refused for one fault,
 --   refuse_once                     and for one refusal
 --   refused-back                    what is made of an answer is refused as the answer was
+--   answer_once, fault_answer_once  answers that say the same are the same: of a refusal, and of a fault
 --   with_twice                      what is made of what is made of an answer
 --   first_or_once                   the promise leaves one answer, where what it says of an answer does
 --   first_or_by                     the promise by other causes, and of more that is said of an answer
@@ -14,10 +15,11 @@ use Prim.Native.Nat.{ℕ, ◌≤◌, ◌<◌}
 use native.Mathlib.Nat.{lt_of_not-le}
 use native.Mathlib.Decide.{dec_le}
 use native.Mathlib.Omega.{arith}
+use Rattle.std.specs.Prelude.{Result, Ok, Err}
 use Rattle.refusal.specs.declared.Refusal.{Refusal}
 use Rattle.refusal.specs.declared.Fault.{Fault}
 use Rattle.refusal.specs.Table.{Cause, First, number_of}
-use Rattle.refusal.specs.Answers.{Answer, refused, given, refuse, with_given, when◌then◌else◌, FirstOr}
+use Rattle.refusal.specs.Answers.{Answer, refused, given, refuse, with_given, when◌then◌else◌, FirstOr, answer_of, answer_at}
 use Rattle.refusal.proofs.Laws.{number_some, number_once, first_once}
 
 -- ---- choices
@@ -48,6 +50,18 @@ refused_once e = cc
 
 pub refuse_once : (A : Type 0) {r s : Refusal} {p q : ℕ} → ◌≡◌ {A = Answer A} (refuse r p) (refuse s q) → r ≡ s
 refuse_once A e = ap (λ f. f.refusal) (refused_once {A = A} e)
+
+pub answer_once : {A : Type 0} (r s : Result A Refusal) → answer_of r ≡ answer_of s → r ≡ s
+answer_once (Ok a) (Ok b) e = ap Ok (given_once e)
+answer_once (Ok a) (Err t) e = no_answer e
+answer_once (Err r) (Ok b) e = no_answer (sym e)
+answer_once {A} (Err r) (Err t) e = ap Err (refuse_once A e)
+
+pub fault_answer_once : {A : Type 0} (r s : Result A Fault) → answer_at r ≡ answer_at s → r ≡ s
+fault_answer_once (Ok a) (Ok b) e = ap Ok (given_once e)
+fault_answer_once (Ok a) (Err t) e = no_answer e
+fault_answer_once (Err r) (Ok b) e = no_answer (sym e)
+fault_answer_once {A} (Err r) (Err t) e = ap Err (refused_once {A = A} e)
 
 pub refused-back : {A B : Type 0} (g : A → B) {f : Fault} (a : Answer A) → with_given g a ≡ refused f → a ≡ refused f
 refused-back {B = B} g (refused f) e = ap refused (refused_once {A = B} e)

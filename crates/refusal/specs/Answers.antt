@@ -1,11 +1,12 @@
 -- What a call has to say, and the one promise of the calls that refuse by causes.
 --   Answer                          what a call gives, or the fault that it refuses with
 --   refuse                          a refusal by its name and its place
+--   answer_of, answer_at            what a result says, where the error is a refusal that is about no place, and where it is a fault
 --   number_of_answer                01's number: 0 where something is given
 --   with_given, then_given          what is made of what is given; a refusal stays
 --   when◌then◌else◌                 a choice by a test, so that definitions read as 01 writes them: in order, the first test that holds decides
 --   FirstOr                         the promise: the first of these causes that holds, or else this answer
-use Rattle.std.specs.Prelude.{◌≡◌, Bool, true, false, List, ℕ}
+use Rattle.std.specs.Prelude.{◌≡◌, Bool, true, false, List, ℕ, Result, Ok, Err}
 use Rattle.refusal.specs.declared.Refusal.{Refusal}
 use Rattle.refusal.specs.declared.Fault.{Fault}
 use Rattle.refusal.specs.Table.{Cause, First, number_of}
@@ -16,6 +17,14 @@ pub data Answer (A : Type 0) : Type 0 where
 
 abbrev pub refuse : {A : Type 0} → Refusal → ℕ → Answer A
 refuse r place = refused (record { refusal = r; place = place })
+
+abbrev pub answer_of : {A : Type 0} → Result A Refusal → Answer A
+answer_of (Ok a) = given a
+answer_of (Err r) = refuse r 0
+
+abbrev pub answer_at : {A : Type 0} → Result A Fault → Answer A
+answer_at (Ok a) = given a
+answer_at (Err f) = refused f
 
 abbrev pub number_of_answer : {A : Type 0} → Answer A → ℕ
 number_of_answer (refused f) = number_of f.refusal

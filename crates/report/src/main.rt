@@ -10,17 +10,13 @@ use report_text::write_report;
 use std::io;
 use std::io::{Read, Write};
 use streams::read_full;
-use text::TextAnswer;
 
 // The report of a sheet. No report is longer than 5,335 bytes.
 fn report_of(sheet: &[u8], text: &mut [u8]) -> usize
     requires { 5335 ≤ length text.old }
     ensures { (result ≤ length text.new) × Report sheet.now (take result text.new) }
 {
-    match write_report(sheet, text) {
-        TextAnswer::Written(end) => end,
-        TextAnswer::Refused(_) => 0,
-    }
+    write_report(sheet, text).unwrap()
 }
 
 // A sheet that is too long shows by its first byte too many, so there is room for that byte.

@@ -6,6 +6,7 @@
 --   written_short                 no more bytes are written
 use mathlib.Core.Path.{◌≡◌, refl, ap, subst}
 use mathlib.Core.List.{List, ◌++◌}
+use Rattle.std.specs.Prelude.{Option, Some, None, Ok, Err}
 use Prim.Native.Nat.{ℕ, zero, suc, ◌*◌, ◌^◌, ◌≤◌, ◌<◌}
 use native.Mathlib.Omega.{arith}
 use lib.IntN.{ℤ, pos, negsuc, nat_abs}
@@ -27,8 +28,6 @@ use Rattle.curve.specs.Curves.{points_of, InRange}
 use Rattle.verdict.specs.Promise.{Recognised}
 use Rattle.measure.specs.Lengths.{length_a, length_b}
 use Rattle.measure.proofs.LengthSizes.{content_small, length_nonneg, length_small}
-use Rattle.sheet.specs.declared.Mission.{Mission}
-use Rattle.sheet.specs.declared.Mission.TheVariants as mission
 use Rattle.sheet.specs.Survey.{Entry, outcome, mission_of}
 use Rattle.sheet.specs.Promise.{count_of, told_of}
 use Rattle.sheet.proofs.Surveys.{sound_of}
@@ -36,7 +35,6 @@ use Rattle.sheet.proofs.Faults.{curves_few, fault_near}
 use Rattle.sheet.proofs.Missions.{MissionSmall, mission_small}
 use Rattle.sheet.proofs.Ahead.{curve_in_range}
 use Rattle.text.specs.Texts.{signed, labelled, bytes, decimal}
-use Rattle.text.specs.declared.TextAnswer.TheVariants as text
 use Rattle.text.proofs.Decimals.{decimal_few}
 use Rattle.text.proofs.Held.{asked-written, room-enough as enough}
 use Rattle.report_text.specs.Texts.{mission_text, first_line, kind_text, verdict_text, refused_line}
@@ -54,7 +52,7 @@ denominator_short : (curve : Curve) → length (labelled "/" (length_b curve)) �
 denominator_short (Cubic c) = omega (arith, decimal_few 0 2 (omega arith))
 denominator_short (Quintic c) = omega (arith, decimal_few 1 12 (omega arith))
 
-verdict_short : (curve : Curve) (v : Verdict) → InRange (points_of curve) → Recognised (points_of curve) v → length (verdict_text curve v) ≤ 39
+verdict_short : (curve : Curve) (v : Verdict) → InRange (points_of curve) → Recognised (points_of curve) (Ok v) → length (verdict_text curve v) ≤ 39
 verdict_short curve verdict.Still r h = omega arith
 verdict_short curve verdict.No r h = omega arith
 verdict_short curve (verdict.Ph s) r h =
@@ -75,7 +73,6 @@ verdict_short curve (verdict.Pre p) r h =
       length-append (bytes "pre c=") (signed p.square.c),
       length-append (bytes " len=") (signed a),
     )
-verdict_short curve (verdict.Refused r') r h = omega arith
 
 kind-long : (curve : Curve) → length (kind_text curve) ≡ 4
 kind-long (Cubic c) = refl
@@ -122,11 +119,11 @@ refused_short s f o =
 few : (s : List ℕ) (es : List Entry) → outcome s ≡ given es → count_of es ≤ 113
 few s es o = subst (λ (x : List Entry). count_of x ≤ 113) (sound_of s o).1 (curves_few s)
 
-mission_short : (m : Mission) → MissionSmall m → length (mission_text m) ≤ 13
-mission_short mission.None l = omega arith
-mission_short (mission.Number m) l = omega (arith, length-append (bytes "mission ") (decimal m), decimal_few 4 m (omega (arith, l)))
+mission_short : (m : Option ℕ) → MissionSmall m → length (mission_text m) ≤ 13
+mission_short None l = omega arith
+mission_short (Some m) l = omega (arith, length-append (bytes "mission ") (decimal m), decimal_few 4 m (omega (arith, l)))
 
-pub first_short : (m : Mission) (count : ℕ) → MissionSmall m → count ≤ 113 → length (first_line m count) ≤ 24
+pub first_short : (m : Option ℕ) (count : ℕ) → MissionSmall m → count ≤ 113 → length (first_line m count) ≤ 24
 first_short m count small l =
     omega (
       arith,
@@ -155,8 +152,8 @@ module _ (s : List ℕ) (small : (i : ℕ) → Fits w8 (get_or s i 0)) where
             lines_short s count l h (omega (arith, few s es o)),
           )
 
-  pub room-enough : (before after : List ℕ) (r : Refusal) → 5335 ≤ length before → Reported s before after (text.Refused r) → ⊥
+  pub room-enough : (before after : List ℕ) (r : Refusal) → 5335 ≤ length before → Reported s before after (Err r) → ⊥
   room-enough = enough 5335 report_short
 
-  pub written_short : (before after : List ℕ) (n : ℕ) → Reported s before after (text.Written n) → n ≤ 5335
-  written_short before after n h = omega (arith, asked-written (length before) h.text n h.says, report_short h.text h.is)
+  pub written_short : (before after : List ℕ) (n : ℕ) → Reported s before after (Ok n) → n ≤ 5335
+  written_short before after n h = omega (arith, (asked-written (length before) h.text n h.says).0, report_short h.text h.is)

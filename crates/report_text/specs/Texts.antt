@@ -5,7 +5,7 @@
 --   kind_text            a curve's kind, between blanks
 --   line_text            the line of a curve
 --   refused_line         the one line of a faulty sheet's report
-use Rattle.std.specs.Prelude.{List, [], ◌++◌, ℕ, pos}
+use Rattle.std.specs.Prelude.{List, ◌++◌, ℕ, pos, Option, Some, None}
 use Rattle.refusal.specs.declared.Fault.{Fault}
 use Rattle.refusal.specs.Table.{number_of}
 use Rattle.curve.specs.declared.Curve.{Curve}
@@ -13,24 +13,20 @@ use Rattle.verdict.specs.declared.Verdict.{Verdict}
 use Rattle.verdict.specs.declared.Verdict.TheVariants as verdict
 use Rattle.measure.specs.Lengths.{length_a, length_b}
 use Rattle.record.specs.Kinds.{row_of, kind_of}
-use Rattle.sheet.specs.declared.Mission.{Mission}
-use Rattle.sheet.specs.declared.Mission.TheVariants as mission
 use Rattle.text.specs.Texts.{bytes, decimal, labelled}
 
-abbrev pub mission_text : Mission → List ℕ
-mission_text mission.None = bytes "mission none"
-mission_text (mission.Number m) = labelled "mission " (pos m)
+abbrev pub mission_text : Option ℕ → List ℕ
+mission_text None = bytes "mission none"
+mission_text (Some m) = labelled "mission " (pos m)
 
-abbrev pub first_line : Mission → ℕ → List ℕ
+abbrev pub first_line : Option ℕ → ℕ → List ℕ
 first_line m count = mission_text m ++ labelled " sheet " (pos count) ++ bytes "\n"
 
--- a curve of a sound sheet is in range, so the last case does not occur
 abbrev pub verdict_text : Curve → Verdict → List ℕ
 verdict_text curve verdict.Still = bytes "still"
 verdict_text curve verdict.No = bytes "no"
 verdict_text curve (verdict.Ph s) = labelled "ph c=" s.c
 verdict_text curve (verdict.Pre p) = labelled "pre c=" p.square.c ++ labelled " len=" (length_a curve p.square.q) ++ labelled "/" (length_b curve)
-verdict_text curve (verdict.Refused r) = []
 
 abbrev pub kind_text : Curve → List ℕ
 kind_text curve = bytes " " ++ (row_of (kind_of curve)).name ++ bytes " "

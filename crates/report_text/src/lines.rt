@@ -1,111 +1,105 @@
-// The lines of a report.
-ghost use Rattle.std.specs.Prelude.{◌≡◌};
+// The lines of a report. A usize becomes a u64 by `as`: there is no From between the two.
+ghost use Rattle.std.specs.Prelude.{◌≡◌, ◌++◌};
 ghost use Rattle.refusal.specs.Answers.{given, with_given};
-ghost use Rattle.curve.specs.Curves.{points_of, InRange, leg_polynomial};
-ghost use Rattle.verdict.specs.declared.Verdict.TheVariants as verdicts;
-ghost use Rattle.verdict.specs.Verdicts.{PreimageOf};
+ghost use Rattle.curve.specs.Curves.{points_of, InRange};
+ghost use Rattle.verdict.specs.Promise.{Recognised};
 ghost use Rattle.sheet.specs.Survey.{outcome};
 ghost use Rattle.sheet.specs.Promise.{count_of};
+ghost use Rattle.text.specs.Texts.{labelled};
 ghost use Rattle.text.specs.Steps.{Writes};
 ghost use Rattle.report_text.specs.Texts.{mission_text, first_line, kind_text, verdict_text, line_text, refused_line};
 ghost use Rattle.report_text.specs.Steps.{WritesJudged, WritesLines};
 
 use curve::Curve;
 use measure::length_by;
-use record::{Held, Kind, held_curve, kind_of, row_of};
+use measure::lengths::Length;
+use record::{Kind, held_curve, kind_of, row_of};
 use refusal::{Fault, number};
-use sheet::Mission;
-use text::{Place, put, put_labelled, put_number, put_signed};
-use verdict::{Preimage, Verdict, recognise};
+use text::Text;
+use verdict::{Verdict, recognise};
 
-fn put_kind(area: &mut [u8], place: Place, curve: Curve) -> Place
-    ensures { Writes area.old place (kind_text curve) area.new result }
+fn put_kind(text: &mut Text, curve: Curve)
+    ensures { Writes text.old (kind_text curve) text.new }
 {
     let row = row_of(kind_of(curve));
-    let name = put(area, place, b" ");
-    let blank = put(area, name, &row.name);
-    put(area, blank, b" ")
+    text.put(b" ");
+    text.put(&row.name);
+    text.put(b" ");
 }
 
 // The verdict pre, with c and the length A/B.
-fn put_preimage(area: &mut [u8], place: Place, curve: Curve, p: Preimage) -> Place
-    requires { InRange (points_of curve) × PreimageOf (leg_polynomial (points_of curve)) p }
-    ensures { Writes area.old place (verdict_text curve (verdicts.Pre p)) area.new result }
+fn put_length(text: &mut Text, length: Length)
+    ensures { Writes text.old (labelled "pre c=" length.c ++ labelled " len=" length.a ++ labelled "/" length.b) text.new }
 {
-    let length = length_by(curve, p.square);
-    let a = put_signed(area, place, b"pre c=", length.c);
-    let b = put_signed(area, a, b" len=", length.a);
-    put_signed(area, b, b"/", length.b)
+    text.put_signed(b"pre c=", length.c);
+    text.put_signed(b" len=", length.a);
+    text.put_signed(b"/", length.b);
 }
 
-fn put_verdict(area: &mut [u8], place: Place, curve: Curve) -> Place
-    requires { InRange (points_of curve) }
-    ensures { WritesJudged area.old place curve (verdict_text curve) area.new result }
+fn put_verdict(text: &mut Text, curve: Curve, v: Verdict)
+    requires { InRange (points_of curve) × Recognised (points_of curve) (Ok v) }
+    ensures { Writes text.old (verdict_text curve v) text.new }
 {
-    match recognise(curve) {
-        Verdict::Still => put(area, place, b"still"),
-        Verdict::No => put(area, place, b"no"),
-        Verdict::Ph(s) => put_signed(area, place, b"ph c=", s.c),
-        Verdict::Pre(p) => put_preimage(area, place, curve, p),
-        // A curve in range is not refused.
-        Verdict::Refused(_) => place,
+    match v {
+        Verdict::Still => text.put(b"still"),
+        Verdict::No => text.put(b"no"),
+        Verdict::Ph(s) => text.put_signed(b"ph c=", s.c),
+        Verdict::Pre(p) => put_length(text, length_by(curve, p.square)),
     }
 }
 
-fn put_line(area: &mut [u8], place: Place, number: usize, curve: Curve) -> Place
+fn put_line(text: &mut Text, number: usize, curve: Curve)
     requires { InRange (points_of curve) }
-    ensures { WritesJudged area.old place curve (line_text number curve) area.new result }
+    ensures { WritesJudged text.old curve (line_text number curve) text.new }
 {
-    let kind = put_number(area, place, number as u64);
-    let verdict = put_kind(area, kind, curve);
-    let end = put_verdict(area, verdict, curve);
-    put(area, end, b"\n")
+    // A curve in range is not refused.
+    let verdict = recognise(curve).unwrap();
+    text.put_number(number as u64);
+    put_kind(text, curve);
+    put_verdict(text, curve, verdict);
+    text.put(b"\n");
 }
 
-fn put_mission(area: &mut [u8], place: Place, mission: Mission) -> Place
-    ensures { Writes area.old place (mission_text mission) area.new result }
+fn put_mission(text: &mut Text, mission: Option<u16>)
+    ensures { Writes text.old (mission_text mission) text.new }
 {
     match mission {
-        Mission::None => put(area, place, b"mission none"),
-        Mission::Number(number) => put_labelled(area, place, b"mission ", number as u64),
+        None => text.put(b"mission none"),
+        Some(number) => text.put_labelled(b"mission ", u64::from(number)),
     }
 }
 
 // The first line of a sound sheet: its mission, and how many curves it has.
-pub fn put_first_line(area: &mut [u8], place: Place, mission: Mission, count: usize) -> Place
-    ensures { Writes area.old place (first_line mission count) area.new result }
+pub fn put_first_line(text: &mut Text, mission: Option<u16>, count: usize)
+    ensures { Writes text.old (first_line mission count) text.new }
 {
-    let sheet = put_mission(area, place, mission);
-    let line = put_labelled(area, sheet, b" sheet ", count as u64);
-    put(area, line, b"\n")
+    put_mission(text, mission);
+    text.put_labelled(b" sheet ", count as u64);
+    text.put(b"\n");
 }
 
 // The line of a faulty sheet, of which nothing but the fault is said.
-pub fn put_refused(area: &mut [u8], place: Place, f: Fault) -> Place
-    ensures { Writes area.old place (refused_line f) area.new result }
+pub fn put_refused(text: &mut Text, f: Fault)
+    ensures { Writes text.old (refused_line f) text.new }
 {
-    let refusal = f.refusal;
-    let at = put_labelled(area, place, b"refused ", number(refusal) as u64);
-    let line = put_labelled(area, at, b" at ", f.place as u64);
-    put(area, line, b"\n")
+    text.put_labelled(b"refused ", u64::from(number(f.refusal)));
+    text.put_labelled(b" at ", u64::from(f.place));
+    text.put(b"\n");
 }
 
-// The lines of a sound sheet's curves, of which there are `count`, in one pass from record to record behind the header.
-pub(crate) fn put_lines(area: &mut [u8], place: Place, sheet: &[u8], count: usize) -> Place
+// The lines of a sound sheet's curves, of which there are `count`, in one pass from record to record behind the header. Each is judged,
+// also behind one that does not fit: the promise speaks of all lines. The places are counted by hand: an iterator over the records is no
+// plainer, since with its ghost members and the law that it ends it is longer than this loop and the one of totals together; and of what a closure
+// changes, here the text, a proof knows nothing once it was called.
+pub(crate) fn put_lines(text: &mut Text, sheet: &[u8], count: usize)
     requires { with_given count_of (outcome sheet.now) ≡ given count }
-    ensures { WritesLines area.old place sheet.now count area.new result }
+    ensures { WritesLines text.old sheet.now count text.new }
 {
-    let mut at = place;
     let mut next = row_of(Kind::Header).size;
-    let mut k: usize = 0;
-    while k < count {
-        let Held::Curve { curve, size } = held_curve(&sheet[next..]) else {
-            // So many records follow one another.
-            return at;
-        };
-        next += size;
-        k += 1;
-        at = put_line(area, at, k, curve);
+    for k in 0..count {
+        // So many records follow one another.
+        let held = held_curve(&sheet[next..]).unwrap();
+        next += held.size;
+        put_line(text, k + 1, held.curve);
     }
-    at
 }

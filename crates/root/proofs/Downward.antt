@@ -1,12 +1,15 @@
 -- A root of a polynomial M of degree 8 from the top down: with s at the fourth power, each coefficient is a quotient by 2 s of what those above
 -- it leave of a coefficient of M.
 --   rest                what the coefficients above the k-th, without s, give to the power k + 4 of the square
+--   CoefficientOr n t   the small x with t x = n, or that there is none, whatever the cause
+--   coefficient_or      what a coefficient or its cause promises of that
 --   Step, Begun         what the answer for the k-th coefficient promises; the coefficients from the k-th up are answers
 --   begun_none, begun_more      nothing is begun at the fourth power, and each answer that is whole goes one power down
---   whole_coefficient   where a small number is the coefficient, it is the answer
 --   search_ends         where an answer is none, there is no root of the upper part
 --   search_finds        four answers that are whole make that root
 --   upper-root_once     and there is one at most
+use Rattle.std.specs.Prelude.{Option, Some, None, Result, Ok, Err}
+use Rattle.std.specs.Result.{result_ok}
 use mathlib.Core.Path.{◌≡◌, refl, sym, ap, ◌∙◌, subst}
 use mathlib.Core.List.{List}
 use mathlib.Core.Logic.{◌≢◌}
@@ -24,10 +27,10 @@ use Rattle.poly.specs.Terms.{Above, RootAt, twice}
 use Rattle.poly.proofs.Roots.{root-1, root-2, root-3, root-4}
 use Rattle.poly.proofs.Top.{length_above}
 use Rattle.poly.proofs.Wholes.{twice-whole_some}
+use Rattle.root.specs.declared.NoCoefficient.{NoCoefficient}
+use Rattle.root.specs.declared.NoCoefficient.TheVariants.{Fraction, TooLarge}
 use Rattle.root.specs.declared.Octic.{Octic}
 use Rattle.root.specs.declared.Quartic.{Quartic}
-use Rattle.root.specs.declared.Coefficient.{Coefficient}
-use Rattle.root.specs.declared.Coefficient.TheVariants.{Whole, Fraction, TooLarge}
 use Rattle.root.specs.Search.{Each, SameFrom, UpperRoot}
 use Rattle.root.specs.Promise.{octic, quartic, Small}
 use Rattle.root.specs.Steps.{IsCoefficient}
@@ -64,32 +67,36 @@ downward q u (suc (suc zero)) l = root-2 wholes_ring 2 (itself q u)
 downward q u (suc (suc (suc zero))) l = root-1 wholes_ring 3 (itself q u) ∙ sym (+ℤ_idr _)
 downward q u (suc (suc (suc (suc k)))) l = absurd (omega arith)
 
-pub whole_coefficient : {n t x : ℤ} → t ≢ pos 0 → (r : Coefficient) → IsCoefficient n t r → IsCoefficient n t (Whole x) → r ≡ Whole x
-whole_coefficient {t} some (Whole y) h k = ap Whole (*ℤ-cancel t some (h.0 ∙ sym k.0))
-whole_coefficient {x} some Fraction h k = absurd (h (record { factor = x; is = k.0 }))
-whole_coefficient {t} some TooLarge h k = absurd (h.2 (subst Small (*ℤ-cancel t some (k.0 ∙ sym h.1)) k.1))
+abbrev pub CoefficientOr : ℤ → ℤ → Option ℤ → Type 0
+CoefficientOr n t (Some x) = (t *ℤ x ≡ n) × Small x
+CoefficientOr n t None = (x : ℤ) → t *ℤ x ≡ n → Small x → ⊥
+
+pub coefficient_or : (n t : ℤ) → t ≢ pos 0 → (r : Result ℤ NoCoefficient) → IsCoefficient n t r → CoefficientOr n t (result_ok r)
+coefficient_or n t some (Ok x) h = h
+coefficient_or n t some (Err Fraction) h = λ x e l. h (record { factor = x; is = e })
+coefficient_or n t some (Err TooLarge) h = λ x e l. h.2 (subst Small (*ℤ-cancel t some (e ∙ sym h.1)) l)
 
 module _ (M : List ℤ) (s : ℤ) where
-  abbrev pub Step : List ℤ → ℕ → Coefficient → Type 0
-  Step q k r = IsCoefficient (at wholes M (k + 4) -ℤ rest q k) (twice wholes s) r
+  abbrev pub Step : List ℤ → ℕ → Option ℤ → Type 0
+  Step q k r = CoefficientOr (at wholes M (k + 4) -ℤ rest q k) (twice wholes s) r
 
   pub record Begun (q : List ℤ) (k : ℕ) : Type 0 where
-    pub answer : (i : ℕ) → k ≤ i → i < 4 → Step q i (Whole (at wholes q i))
+    pub answer : (i : ℕ) → k ≤ i → i < 4 → Step q i (Some (at wholes q i))
 
 pub begun_none : {M : List ℤ} {s : ℤ} {q : List ℤ} → Begun M s q 4
 begun_none = record { answer = λ i l h. absurd (omega arith) }
 
-pub begun_more : {M : List ℤ} {s : ℤ} {q : List ℤ} {k : ℕ} → Begun M s q (suc k) → Step M s q k (Whole (at wholes q k)) → Begun M s q k
+pub begun_more : {M : List ℤ} {s : ℤ} {q : List ℤ} {k : ℕ} → Begun M s q (suc k) → Step M s q k (Some (at wholes q k)) → Begun M s q k
 begun_more {M} {s} {q} {k} b f = record { answer = λ i l h. by i h (dec_lt k i) l }
   where
-    by : (i : ℕ) → i < 4 → Dec (k < i) → k ≤ i → Step M s q i (Whole (at wholes q i))
+    by : (i : ℕ) → i < 4 → Dec (k < i) → k ≤ i → Step M s q i (Some (at wholes q i))
     by i h (yes j) l = b.answer i (omega arith) h
-    by i h (no j) l = let e : k ≡ i = omega arith in subst (λ (n : ℕ). Step M s q n (Whole (at wholes q n))) e f
+    by i h (no j) l = let e : k ≡ i = omega arith in subst (λ (n : ℕ). Step M s q n (Some (at wholes q n))) e f
 
 module _ (M : List ℤ) (s : ℤ) (some : s ≢ pos 0) where
   -- the coefficients of a root of the upper part are the answers
   step_of_lem : {x : List ℤ} → UpperRoot wholes Small M 4 s x → (q : List ℤ) (k : ℕ) → k < 4
-      → ((i : ℕ) → k < i → i < 4 → at wholes x i ≡ at wholes q i) → Step M s q k (Whole (at wholes x k))
+      → ((i : ℕ) → k < i → i < 4 → at wholes x i ≡ at wholes q i) → Step M s q k (Some (at wholes x k))
   step_of_lem {x} u q k l h = (
     ap (λ z. twice wholes z *ℤ at wholes x k) (sym u.lead)
         ∙ downward x u.above k l
@@ -105,11 +112,8 @@ module _ (M : List ℤ) (s : ℤ) (some : s ≢ pos 0) where
       *ℤ-cancel (twice wholes s) (twice-whole_some s some)
       ((step_of_lem u q i h (λ j a c. agrees u q k b n j (omega arith) (omega arith) c)).0 ∙ sym (b.answer i l h).0)
 
-  pub search_ends : (q : List ℤ) (k : ℕ) → k < 4 → Begun M s q (suc k) → (r : Coefficient) → Step M s q k r → ((y : ℤ) → r ≢ Whole y)
-      → (x : List ℤ) → UpperRoot wholes Small M 4 s x → ⊥
-  search_ends q k l b r h none x u =
-      none (at wholes x k)
-      (whole_coefficient (twice-whole_some s some) r h (step_of_lem u q k l (λ i a c. agrees u q (suc k) b 4 i (omega arith) a c)))
+  pub search_ends : (q : List ℤ) (k : ℕ) → k < 4 → Begun M s q (suc k) → Step M s q k None → (x : List ℤ) → UpperRoot wholes Small M 4 s x → ⊥
+  search_ends q k l b h x u = let e = step_of_lem u q k l (λ i a c. agrees u q (suc k) b 4 i (omega arith) a c) in h (at wholes x k) e.0 e.1
 
   pub upper-root_once : {p q : List ℤ} → UpperRoot wholes Small M 4 s p → UpperRoot wholes Small M 4 s q → Same wholes p q
   upper-root_once {p} {q} u v k = by (dec_lt k 4) (dec_lt 4 k)

@@ -6,33 +6,29 @@
 --   lead_once           `IsLead` has one answer
 --   search_once         and so has `IsSearch`, for a lead other than 0
 --   whole-root_once     and `IsWholeRoot`
+use Rattle.std.specs.Prelude.{Option, Some, Result, Ok, Err}
 use mathlib.Core.Path.{◌≡◌, refl, sym, ap, ◌∙◌}
 use mathlib.Core.List.{List}
 use mathlib.Core.Logic.{◌≢◌, ◌⊎◌, inl, inr}
-use lib.IntN.{ℤ, pos, neg_ℤ}
-use Rattle.whole.specs.declared.Exact.{Exact}
-use Rattle.whole.specs.declared.Exact.TheVariants as exact
+use lib.IntN.{ℤ, pos, neg_ℤ, ◌*ℤ◌}
 use Rattle.whole.specs.Number.{wholes}
 use Rattle.whole.specs.Coefficients.{Coefficients}
 use Rattle.poly.specs.Polynomials.{Same}
 use Rattle.whole.proofs.Ring.{Ring}
 use Rattle.whole.proofs.Linear.{linear, negative_parts}
-use Rattle.whole.proofs.Wholes.{wholes_ring}
+use Rattle.whole.proofs.Options.{option_once}
+use Rattle.whole.proofs.Wholes.{wholes_ring, *ℤ-cancel}
 use Rattle.poly.proofs.Domain.{Domain, roots_agree, squares_agree, UpToSign}
 use Rattle.poly.proofs.Wholes.{wholes_domain}
+use Rattle.root.specs.declared.NoCoefficient.{NoCoefficient}
+use Rattle.root.specs.declared.NoCoefficient.TheVariants.{Fraction, TooLarge}
 use Rattle.root.specs.declared.Octic.{Octic}
 use Rattle.root.specs.declared.Quartic.{Quartic}
-use Rattle.root.specs.declared.Coefficient.{Coefficient}
-use Rattle.root.specs.declared.Coefficient.TheVariants.{Whole, Fraction, TooLarge}
-use Rattle.root.specs.declared.Search.{Search}
-use Rattle.root.specs.declared.Search.TheVariants.{Upper, None}
-use Rattle.root.specs.declared.WholeRoot.{WholeRoot}
-use Rattle.root.specs.declared.WholeRoot.TheVariants.{Root, None}
 use Rattle.root.specs.Search.{Lead, SmallRoot}
-use Rattle.root.specs.Promise.{quartic, IsSquare, IsWholeRoot}
+use Rattle.root.specs.Promise.{quartic, Small, IsSquare, IsWholeRoot}
 use Rattle.root.specs.Steps.{IsCoefficient, IsLead, IsSearch}
 use Rattle.root.proofs.Squared.{square_only}
-use Rattle.root.proofs.Downward.{whole_coefficient, upper-root_once}
+use Rattle.root.proofs.Downward.{coefficient_or, upper-root_once}
 use Rattle.root.proofs.Leads.{positive_lead_once}
 
 module _ {A : Type 0} {C : Coefficients A} (R : Ring C) (D : Domain C) {Positive : A → Type 0}
@@ -46,37 +42,33 @@ square_once q a b h k = square_only q a h ∙ sym (square_only q b k)
 pub quartic-same : (p q : Quartic) → Same wholes (quartic p) (quartic q) → p ≡ q
 quartic-same p q e i = record { q0 = e 0 i; q1 = e 1 i; q2 = e 2 i; q3 = e 3 i; q4 = e 4 i }
 
-pub coefficient_once : (n t : ℤ) → t ≢ pos 0 → (r s : Coefficient) → IsCoefficient n t r → IsCoefficient n t s → r ≡ s
-coefficient_once n t some (Whole x) (Whole y) h k = whole_coefficient some (Whole x) h k
-coefficient_once n t some (Whole x) Fraction h k = sym (whole_coefficient some Fraction k h)
-coefficient_once n t some (Whole x) TooLarge h k = sym (whole_coefficient some TooLarge k h)
-coefficient_once n t some Fraction (Whole y) h k = whole_coefficient some Fraction h k
-coefficient_once n t some Fraction Fraction h k = refl
-coefficient_once n t some Fraction TooLarge h k = absurd (h (record { factor = k.0; is = k.1 }))
-coefficient_once n t some TooLarge (Whole y) h k = whole_coefficient some TooLarge h k
-coefficient_once n t some TooLarge Fraction h k = absurd (k (record { factor = h.0; is = h.1 }))
-coefficient_once n t some TooLarge TooLarge h k = refl
+no_cause : (n t : ℤ) → t ≢ pos 0 → (e : NoCoefficient) → IsCoefficient n t (Err e) → (x : ℤ) → t *ℤ x ≡ n → Small x → ⊥
+no_cause n t some e = coefficient_or n t some (Err e)
 
-pub lead_once : (m : ℤ) (r s : Exact) → IsLead m r → IsLead m s → r ≡ s
-lead_once m (exact.Whole x) (exact.Whole y) h k = ap exact.Whole (by (roots_agree wholes_ring wholes_domain x y (h.0 ∙ sym k.0)))
+pub coefficient_once : (n t : ℤ) → t ≢ pos 0 → (r s : Result ℤ NoCoefficient) → IsCoefficient n t r → IsCoefficient n t s → r ≡ s
+coefficient_once n t some (Ok x) (Ok y) h k = ap Ok (*ℤ-cancel t some (h.0 ∙ sym k.0))
+coefficient_once n t some (Ok x) (Err e) h k = absurd (no_cause n t some e k x h.0 h.1)
+coefficient_once n t some (Err e) (Ok y) h k = absurd (no_cause n t some e h y k.0 k.1)
+coefficient_once n t some (Err Fraction) (Err Fraction) h k = refl
+coefficient_once n t some (Err Fraction) (Err TooLarge) h k = absurd (h (record { factor = k.0; is = k.1 }))
+coefficient_once n t some (Err TooLarge) (Err Fraction) h k = absurd (k (record { factor = h.0; is = h.1 }))
+coefficient_once n t some (Err TooLarge) (Err TooLarge) h k = refl
+
+pub lead_once : (m : ℤ) (r s : Option ℤ) → IsLead m r → IsLead m s → r ≡ s
+lead_once m = option_once (IsLead m) same (λ x h none. none x h.0)
   where
-    by : (x ≡ y) ⊎ (x ≡ neg_ℤ y) → x ≡ y
-    by (inl e) = e
-    by (inr e) = omega (linear, e, h.1, k.1, negative_parts y)
-lead_once m (exact.Whole x) exact.Fraction h k = absurd (k x h.0)
-lead_once m exact.Fraction (exact.Whole y) h k = absurd (h y k.0)
-lead_once m exact.Fraction exact.Fraction h k = refl
+    same : (x y : ℤ) → IsLead m (Some x) → IsLead m (Some y) → x ≡ y
+    same x y h k = by (roots_agree wholes_ring wholes_domain x y (h.0 ∙ sym k.0))
+      where
+        by : (x ≡ y) ⊎ (x ≡ neg_ℤ y) → x ≡ y
+        by (inl e) = e
+        by (inr e) = omega (linear, e, h.1, k.1, negative_parts y)
 
-pub search_once : (M : List ℤ) (s : ℤ) → s ≢ pos 0 → (r t : Search) → IsSearch M s r → IsSearch M s t → r ≡ t
-search_once M s some (Upper p) (Upper q) h k = ap Upper (quartic-same p q (upper-root_once M s some h k))
-search_once M s some (Upper p) None h k = absurd (k (quartic p) h)
-search_once M s some None (Upper q) h k = absurd (h (quartic q) k)
-search_once M s some None None h k = refl
+pub search_once : (M : List ℤ) (s : ℤ) → s ≢ pos 0 → (r t : Option Quartic) → IsSearch M s r → IsSearch M s t → r ≡ t
+search_once M s some = option_once (IsSearch M s) (λ p q h k. quartic-same p q (upper-root_once M s some h k)) (λ q h none. none (quartic q) h)
 
-pub whole-root_once : (M : List ℤ) (r s : WholeRoot) → IsWholeRoot M r → IsWholeRoot M s → r ≡ s
-whole-root_once M (Root p) (Root q) h k =
-    ap Root (quartic-same p q
-    (small_root_once wholes_ring wholes_domain positive_lead_once M (quartic p) (quartic q) h k))
-whole-root_once M (Root p) None h k = absurd (k (quartic p) h.small h.squared)
-whole-root_once M None (Root q) h k = absurd (h (quartic q) k.small k.squared)
-whole-root_once M None None h k = refl
+pub whole-root_once : (M : List ℤ) (r s : Option Quartic) → IsWholeRoot M r → IsWholeRoot M s → r ≡ s
+whole-root_once M =
+    option_once (IsWholeRoot M)
+    (λ p q h k. quartic-same p q (small_root_once wholes_ring wholes_domain positive_lead_once M (quartic p) (quartic q) h k))
+    (λ q h none. none (quartic q) h.small h.squared)

@@ -6,13 +6,11 @@
 --   IsSquare            the nine coefficients of a square
 --   LeadPositive        the highest coefficient that is not zero is positive
 --   IsWholeRoot         the small root with a positive lead, or that there is no small root
-use Rattle.std.specs.Prelude.{List, [], ◌∷◌, ℕ, ℤ, pos, ◌<ℤ◌}
+use Rattle.std.specs.Prelude.{List, [], ◌∷◌, ℕ, ℤ, pos, ◌<ℤ◌, Option, Some, None}
 use Rattle.poly.specs.Polynomials.{Same, square}
 use Rattle.whole.specs.Number.{wholes, Within, norm_size}
 use Rattle.root.specs.declared.Octic.{Octic}
 use Rattle.root.specs.declared.Quartic.{Quartic}
-use Rattle.root.specs.declared.WholeRoot.{WholeRoot}
-use Rattle.root.specs.declared.WholeRoot.TheVariants.{Root, None}
 use Rattle.root.specs.Search.{Lead, SmallRoot, NoSmallRoot}
 
 abbrev pub octic : Octic → List ℤ
@@ -39,6 +37,6 @@ IsSquare q m = Same wholes (square wholes (quartic q)) (octic m)
 abbrev pub LeadPositive : List ℤ → Type 0
 LeadPositive = Lead wholes Positive
 
-abbrev pub IsWholeRoot : List ℤ → WholeRoot → Type 0
-IsWholeRoot M (Root q) = SmallRoot wholes Positive Small M (quartic q)
+abbrev pub IsWholeRoot : List ℤ → Option Quartic → Type 0
+IsWholeRoot M (Some q) = SmallRoot wholes Positive Small M (quartic q)
 IsWholeRoot M None = NoSmallRoot wholes Small M

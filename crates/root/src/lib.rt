@@ -1,5 +1,6 @@
 // The square root of a polynomial over whole numbers, from the highest power down. Each coefficient is an exact quotient, so that the square
-// agrees from the fourth power up, and a comparison of the powers below decides.
+// agrees from the fourth power up, and a comparison of the powers below decides. That a polynomial's coefficients are sized stands in the
+// contracts and not in `Octic`: those of a square are larger.
 #![tactic(auto)]
 
 ghost use Rattle.std.specs.Prelude.{◌≡◌, ◌∷◌, ◌≢◌, ◌+◌, ◌≤◌, pos, ◌*ℤ◌};
@@ -12,13 +13,14 @@ ghost use Rattle.root.specs.Search.{Each, SameBelow};
 ghost use Rattle.root.specs.Promise.{octic, quartic, Sized, Small, IsSquare, IsWholeRoot};
 ghost use Rattle.root.specs.Steps.{IsCoefficient, IsLead, IsSearch};
 
-use whole::{Exact, ends_as_a_square, quotient, size, square_root};
+use whole::{exact_root, quotient};
 
 // How large a coefficient of a root may be.
 const ROOT_SIZE: u64 = 20000000;
 
 // m0 + m1 t + .. + m8 t^8
-#[derive(Clone, Copy)]
+// Named fields, here and in `Quartic`: `square` and `candidate_of` have a formula of its own for each coefficient, which an array would number.
+#[derive(Clone, Copy, Debug, PartialEq, Eq)]
 pub struct Octic {
     pub m0: i64,
     pub m1: i64,
@@ -32,7 +34,7 @@ pub struct Octic {
 }
 
 // q0 + q1 t + .. + q4 t^4
-#[derive(Clone, Copy)]
+#[derive(Clone, Copy, Debug, PartialEq, Eq)]
 pub struct Quartic {
     pub q0: i64,
     pub q1: i64,
@@ -41,25 +43,12 @@ pub struct Quartic {
     pub q4: i64,
 }
 
-#[derive(Clone, Copy)]
-pub enum WholeRoot {
-    Root(Quartic),
-    None,
-}
-
-// A coefficient of a root: a small whole number, or why it is none.
-#[derive(Clone, Copy)]
-pub enum Coefficient {
-    Whole(i64),
+// Why a root has no such coefficient: it is no whole number, or not small. No caller asks which: the promise `IsCoefficient` tells the two apart, and
+// the theorem `coefficient_once` speaks of both.
+#[derive(Clone, Copy, Debug, PartialEq, Eq)]
+pub enum NoCoefficient {
     Fraction,
     TooLarge,
-}
-
-// The only polynomial that can be a root, or that a coefficient ended the search.
-#[derive(Clone, Copy)]
-enum Search {
-    Upper(Quartic),
-    None,
 }
 
 // The square of q.
@@ -67,11 +56,7 @@ pub fn square(q: Quartic) -> Octic
     requires { Each wholes Small (quartic q) }
     ensures { IsSquare q result }
 {
-    let q0 = q.q0;
-    let q1 = q.q1;
-    let q2 = q.q2;
-    let q3 = q.q3;
-    let q4 = q.q4;
+    let Quartic { q0, q1, q2, q3, q4 } = q;
     let d0 = 2 * q0;
     let d1 = 2 * q1;
     let d2 = 2 * q2;
@@ -92,59 +77,33 @@ pub fn square(q: Quartic) -> Octic
 fn same_below(a: Octic, b: Octic) -> bool
     ensures { Tells (SameBelow wholes 4 (octic a) (octic b)) result }
 {
-    if a.m3 != b.m3 {
-        return false;
-    }
-    if a.m2 != b.m2 {
-        return false;
-    }
-    if a.m1 != b.m1 {
-        return false;
-    }
-    if a.m0 != b.m0 {
-        return false;
-    }
-    true
+    (a.m3, a.m2, a.m1, a.m0) == (b.m3, b.m2, b.m1, b.m0)
 }
 
 // The coefficient x with t x = n. A large fraction is a fraction.
-fn coefficient_of(n: i64, t: i64) -> Coefficient
+fn coefficient_of(n: i64, t: i64) -> Result<i64, NoCoefficient>
     requires { Divisible n t }
     ensures { IsCoefficient n t result }
 {
-    let Exact::Whole(x) = quotient(n, t) else {
-        return Coefficient::Fraction;
-    };
-    if ROOT_SIZE < size(x) {
-        Coefficient::TooLarge
+    let x = quotient(n, t).ok_or(NoCoefficient::Fraction)?;
+    if ROOT_SIZE < x.unsigned_abs() {
+        Err(NoCoefficient::TooLarge)
     } else {
-        Coefficient::Whole(x)
+        Ok(x)
     }
 }
 
 // The polynomial with s at the fourth power whose square is m from there up: each coefficient is decided by those above it.
-fn candidate_of(m: Octic, s: i64) -> Search
+fn candidate_of(m: Octic, s: i64) -> Option<Quartic>
     requires { Each wholes Sized (octic m) × Small s × (s ≢ pos 0) × (s *ℤ s ≡ m.m8) }
     ensures { IsSearch (octic m) s result }
 {
-    let m4 = m.m4;
-    let m5 = m.m5;
-    let m6 = m.m6;
-    let m7 = m.m7;
     let t = s + s;
-    let Coefficient::Whole(q3) = coefficient_of(m7, t) else {
-        return Search::None;
-    };
-    let Coefficient::Whole(q2) = coefficient_of(m6 - q3 * q3, t) else {
-        return Search::None;
-    };
-    let Coefficient::Whole(q1) = coefficient_of(m5 - 2 * (q2 * q3), t) else {
-        return Search::None;
-    };
-    let Coefficient::Whole(q0) = coefficient_of(m4 - (2 * (q1 * q3) + q2 * q2), t) else {
-        return Search::None;
-    };
-    Search::Upper(Quartic {
+    let q3 = coefficient_of(m.m7, t).ok()?;
+    let q2 = coefficient_of(m.m6 - q3 * q3, t).ok()?;
+    let q1 = coefficient_of(m.m5 - 2 * (q2 * q3), t).ok()?;
+    let q0 = coefficient_of(m.m4 - (2 * (q1 * q3) + q2 * q2), t).ok()?;
+    Some(Quartic {
         q0,
         q1,
         q2,
@@ -154,38 +113,25 @@ fn candidate_of(m: Octic, s: i64) -> Search
 }
 
 // The root of the highest coefficient, if it is a square.
-fn lead_of(m: i64) -> Exact
+fn lead_of(m: i64) -> Option<i64>
     ensures { IsLead m result }
 {
-    if m < 0 {
-        return Exact::Fraction;
-    }
-    let n = m as u64;
-    if !ends_as_a_square(n) {
-        return Exact::Fraction;
-    }
-    let s = square_root(n);
-    if s.rest != 0 {
-        return Exact::Fraction;
-    }
-    Exact::Whole(s.root as i64)
+    let s = exact_root(u64::try_from(m).ok()?)?;
+    // `as`: the root of a number below 2^63 is small; `try_from` would have an error that never comes.
+    Some(s as i64)
 }
 
 // The root of a polynomial with a coefficient at the eighth power.
-fn quartic_root(m: Octic) -> WholeRoot
+fn quartic_root(m: Octic) -> Option<Quartic>
     requires { Each wholes Sized (octic m) × Top wholes (octic m) 8 }
     ensures { IsWholeRoot (octic m) result }
 {
-    let Exact::Whole(s) = lead_of(m.m8) else {
-        return WholeRoot::None;
-    };
-    let Search::Upper(q) = candidate_of(m, s) else {
-        return WholeRoot::None;
-    };
+    let s = lead_of(m.m8)?;
+    let q = candidate_of(m, s)?;
     if same_below(square(q), m) {
-        WholeRoot::Root(q)
+        Some(q)
     } else {
-        WholeRoot::None
+        None
     }
 }
 
@@ -222,15 +168,13 @@ fn lowered(q: Quartic) -> Quartic
 }
 
 // The root of a polynomial whose highest power is 2 l. Below the eighth power it is that of t² m, divided by t.
-pub fn whole_root(m: Octic, l: u64) -> WholeRoot
+pub fn whole_root(m: Octic, l: u64) -> Option<Quartic>
     requires { Each wholes Sized (octic m) × Top wholes (octic m) (l + l) × (l ≤ 4) }
     ensures { IsWholeRoot (octic m) result }
 {
     if l == 4 {
         return quartic_root(m);
     }
-    let WholeRoot::Root(q) = whole_root(raised(m), l + 1) else {
-        return WholeRoot::None;
-    };
-    WholeRoot::Root(lowered(q))
+    let q = whole_root(raised(m), l + 1)?;
+    Some(lowered(q))
 }

@@ -13,7 +13,8 @@ use Rattle.refusal.specs.Answers.{Answer, refused, given, with_given}
 use Rattle.refusal.proofs.Answers.{no_answer, given_once}
 use Rattle.curve.specs.declared.Curve.{Curve}
 use Rattle.curve.specs.Curves.{points_of, InRange}
-use Rattle.record.specs.declared.points.Held.TheVariants as held
+use Rattle.std.specs.Prelude.{Some, None}
+use Rattle.record.specs.declared.points.Held.{Held}
 use Rattle.record.specs.Promise.{IsHeld}
 use Rattle.record.specs.Records.{longest}
 use Rattle.sheet.specs.Survey.{Entry, outcome, numbered}
@@ -39,13 +40,13 @@ module _ (s : List ℕ) (count k next : ℕ) (l : k < count) (a : Ahead s count 
   pub ahead_near : length s ≤ longest
   ahead_near = (choice (a l).1).short
 
-  pub ahead_held : IsHeld (drop next s) held.None → ⊥
+  pub ahead_held : IsHeld (drop next s) None → ⊥
   ahead_held = held-nothing (a l).1
 
-  pub passed : with_given count_of (outcome s) ≡ given count → (c : Curve) (size : ℕ) → IsHeld (drop next s) (held.Curve c size)
-      → HasCurve s (suc k) c × (size ≡ (a l).0) × Ahead s count (k + 1) (next + size)
-  passed e c size h =
-      let read = held-curve (a l).1 c size h in (
+  pub passed : with_given count_of (outcome s) ≡ given count → (x : Held) → IsHeld (drop next s) (Some x)
+      → HasCurve s (suc k) x.curve × (x.size ≡ (a l).0) × Ahead s count (k + 1) (next + x.size)
+  passed e x h =
+      let read = held-curve (a l).1 x h in (
         read.0,
         read.1,
         λ m.

@@ -19,21 +19,15 @@ use Rattle.curve.specs.declared.Curve.TheVariants as form
 use Rattle.curve.specs.Curves.{points_of}
 use Rattle.record.specs.Numbers.{written}
 use Rattle.record.specs.Kinds.{row_of, kind_of, numbers_of, record_of}
-use Rattle.record.specs.Records.{may_stand, all_within, step_of}
-use Rattle.record.specs.declared.steps.Step.{Step}
-use Rattle.record.specs.declared.steps.Step.TheVariants as step
+use Rattle.record.specs.Records.{Step, may_stand, all_within, step_of}
+use Rattle.std.specs.Prelude.{Some, None, Result, Ok, Err}
 use Rattle.record.proofs.Shown.{Whole, ends_erased, erased_ends}
 use Rattle.record.specs.Promise.{putting_at}
 use Rattle.record.proofs.Pieces.{written-long}
 use Rattle.record.proofs.Formed.{record_whole, record_long, record_points}
 use Rattle.record.proofs.Putting.{done_by}
 use Rattle.record.proofs.Headers.{curve_may}
-use Rattle.sheet.specs.declared.walks.Ending.{Ending}
-use Rattle.sheet.specs.declared.walks.Ending.TheVariants.{Sound, Faulty}
-use Rattle.sheet.specs.declared.Mission.TheVariants as mission
-use Rattle.sheet.specs.declared.Change.{Change}
-use Rattle.sheet.specs.declared.Change.TheVariants as change
-use Rattle.sheet.specs.Survey.{Entry, Survey, survey, soundly, curves, mission_of}
+use Rattle.sheet.specs.Survey.{Ending, Entry, Survey, survey, soundly, curves, mission_of}
 use Rattle.sheet.specs.Promise.{points_of_entry, appending, curves_in, answer_of_change, Changes, Appends}
 use Rattle.sheet.proofs.Surveys.{flat, Listed, Ended, first_after, after_false, survey_of_lem, short_of, sheet_parts}
 use Rattle.sheet.proofs.Standing.{curves-append}
@@ -53,13 +47,13 @@ listed-one first at (x ∷ es) e l p m w =
     (l.0, l.1, l.2, listed-one false (at + length x.bytes) es e l.3 (omega (arith, p, length-append x.bytes (flat es))) (ap (λ (b : Bool). may_stand b e.kind) (after_false es) ∙ m) w)
 
 -- the step behind the records of a sheet that ends soundly
-pub ended : (at : ℕ) (x : Step) → Ended at x Sound → x ≡ step.Ends
-ended at step.Ends e = refl
-ended at (step.Fault r offset) e = let z : ◌≡◌ {A = ℕ} 0 1 = cc in absurd (omega arith)
-ended at (step.Record k) e = absurd e
+pub ended : (at : ℕ) (x : Step) → Ended at x (Ok tt) → x ≡ Ok None
+ended at (Ok None) e = refl
+ended at (Err slip) e = let z : ◌≡◌ {A = ℕ} 0 1 = cc in absurd (omega arith)
+ended at (Ok (Some k)) e = absurd e
 
-pub appended : (s : List ℕ) (e : Entry) → (survey s).ending ≡ Sound → e.place ≡ (survey s).end → may_stand (first_after true (survey s).records) e.kind ≡ true → Whole e.kind e.bytes → (survey s).end + length e.bytes ≤ length s
-    → survey (written s (survey s).end e.bytes) ≡ record { records = (survey s).records ++ (e ∷ []); end = (survey s).end + length e.bytes; ending = Sound }
+pub appended : (s : List ℕ) (e : Entry) → (survey s).ending ≡ Ok tt → e.place ≡ (survey s).end → may_stand (first_after true (survey s).records) e.kind ≡ true → Whole e.kind e.bytes → (survey s).end + length e.bytes ≤ length s
+    → survey (written s (survey s).end e.bytes) ≡ record { records = (survey s).records ++ (e ∷ []); end = (survey s).end + length e.bytes; ending = Ok tt }
 appended s e sound place may w l =
     let short = short_of s sound in
     let p = sheet_parts true s short in
@@ -67,7 +61,7 @@ appended s e sound place may w l =
     let first = first_after true es in
     let x = e.bytes in
     let end : (survey s).end ≡ length (flat es) = p.end_is ∙ omega arith in
-    let last : step_of first p.tail ≡ step.Ends = ended (survey s).end (step_of first p.tail) (subst (λ (how : Ending). Ended (survey s).end (step_of first p.tail) how) sound p.last) in
+    let last : step_of first p.tail ≡ Ok None = ended (survey s).end (step_of first p.tail) (subst (λ (how : Ending). Ended (survey s).end (step_of first p.tail) how) sound p.last) in
     let front : take (survey s).end s ≡ flat es = ap (take (survey s).end) p.parts ∙ take_at (flat es) p.tail (survey s).end (sym end) in
     let back : drop ((survey s).end + length x) s ≡ drop (length x) p.tail =
     ap (drop ((survey s).end + length x)) p.parts ∙ ap (λ (n : ℕ). drop (n + length x) (flat es ++ p.tail)) end ∙ drop-append-add (flat es) p.tail (length x)
@@ -81,7 +75,7 @@ appended s e sound place may w l =
     survey_of_lem (written s (survey s).end x) (es ++ (e ∷ [])) (drop (length x) p.tail) (omega (arith, written-long s (survey s).end x l)) joined
     (listed-one true 0 es e p.listed (place ∙ p.end_is) may w)
     (erased_ends (first_after true (es ++ (e ∷ []))) (drop (length x) p.tail) (λ i m. get_or-drop (length x) p.tail i 0 ∙ ends_erased first p.tail last (length x + i) (omega (arith, length-drop (length x) p.tail))))
-    ∙ ap (λ (n : ℕ). record { records = es ++ (e ∷ []); end = n; ending = Sound }) (omega (arith, ap length (flat-one es e), length-append (flat es) x, end))
+    ∙ ap (λ (n : ℕ). record { records = es ++ (e ∷ []); end = n; ending = Ok tt }) (omega (arith, ap length (flat-one es e), length-append (flat es) x, end))
 
 -- ---- a curve more
 
@@ -93,9 +87,9 @@ is-curve (form.Cubic c) = refl
 is-curve (form.Quintic c) = refl
 
 pub survey_after :
-    (s : List ℕ) (c : Curve) (t : List ℕ) {m : ℕ} → (survey s).ending ≡ Sound → mission_of (survey s).records ≡ mission.Number m → (survey s).end ≤ length s →
+    (s : List ℕ) (c : Curve) (t : List ℕ) {m : ℕ} → (survey s).ending ≡ Ok tt → mission_of (survey s).records ≡ Some m → (survey s).end ≤ length s →
     given t ≡ putting_at s (survey s).end (kind_of c) (numbers_of (points_of c)) →
-    (all_within (numbers_of (points_of c)) ≡ true) × (survey t ≡ record { records = (survey s).records ++ (entry_of (survey s).end c ∷ []); end = (survey s).end + length (record_of c); ending = Sound })
+    (all_within (numbers_of (points_of c)) ≡ true) × (survey t ≡ record { records = (survey s).records ++ (entry_of (survey s).end c ∷ []); end = (survey s).end + length (record_of c); ending = Ok tt })
 survey_after s c t sound own l e =
     let d = done_by s (survey s).end (kind_of c) (numbers_of (points_of c)) t e in
     let fits : (survey s).end + length (record_of c) ≤ length s = omega (arith, record_long c, d.1) in
@@ -109,14 +103,14 @@ curves-one es place c = curves-append es (entry_of place c ∷ []) ∙ ap (λ (b
 
 module _ (s : List ℕ) (c : Curve) where
   -- a refusal lists nothing
-  pub append-kept_as : {f : Fault} → Changes s (appending s c) s (change.Refused f) → Appends s c s (change.Refused f)
+  pub append-kept_as : {f : Fault} → Changes s (appending s c) s (Err f) → Appends s c s (Err f)
   append-kept_as g = record { changes = g; lists = λ d. let z : ◌≡◌ {A = ℕ} 0 1 = cc in absurd (omega arith) }
 
-  pub append_fault : {f : Fault} → (survey s).ending ≡ Faulty f → Appends s c s (change.Refused f)
+  pub append_fault : {f : Fault} → (survey s).ending ≡ Err f → Appends s c s (Err f)
   unfolding appending
   append_fault e = append-kept_as (record { says = rw e; leaves = rw e })
 
-  module _ {m : ℕ} (sound : (survey s).ending ≡ Sound) (own : mission_of (survey s).records ≡ mission.Number m) (fits : (survey s).end ≤ length s) where
+  module _ {m : ℕ} (sound : (survey s).ending ≡ Ok tt) (own : mission_of (survey s).records ≡ Some m) (fits : (survey s).end ≤ length s) where
     lists_new : (t : List ℕ) → given t ≡ putting_at s (survey s).end (kind_of c) (numbers_of (points_of c)) →
         curves_in t ≡ with_given (λ (old : List (List Pair)). old ++ (points_of c ∷ [])) (curves_in s)
     unfolding curves_in
@@ -128,5 +122,5 @@ module _ (s : List ℕ) (c : Curve) where
         ∙ ap given (ap (map points_of_entry) (curves-one es (survey s).end c) ∙ map-append points_of_entry (curves es) (new ∷ []) ∙ ap (λ (p : List Pair). map points_of_entry (curves es) ++ (p ∷ [])) (record_points c o.0))
         ∙ sym (ap (λ (how : Ending). with_given (λ (old : List (List Pair)). old ++ (points_of c ∷ [])) (with_given (λ es. map points_of_entry (curves es)) (soundly how es))) sound)
 
-    pub append-sound : {t : List ℕ} {r : Change} → Changes s (appending s c) t r → Appends s c t r
+    pub append-sound : {t : List ℕ} {r : Result (Unit {0}) Fault} → Changes s (appending s c) t r → Appends s c t r
     append-sound {t} {r} g = record { changes = g; lists = λ d. lists_new t (sym (ap (answer_of_change t) d) ∙ g.says ∙ appending-sound s c sound own) }

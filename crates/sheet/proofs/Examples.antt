@@ -22,11 +22,10 @@ use Rattle.record.specs.Numbers.{encoded}
 use Rattle.record.specs.declared.kinds.Kind.TheVariants.{Header}
 use Rattle.record.specs.Kinds.{row_of, numbers_of, header_of, record_of}
 use Rattle.record.specs.Records.{longest, erased, step_of}
-use Rattle.record.specs.declared.steps.Step.TheVariants as step
+use Rattle.std.specs.Prelude.{None, Ok}
 use Rattle.record.proofs.Shown.{erased_ends}
 use Rattle.record.proofs.Formed.{record_whole, range_is}
 use Rattle.record.proofs.Headers.{header_may, curve_may, header-whole}
-use Rattle.sheet.specs.declared.walks.Ending.TheVariants.{Sound}
 use Rattle.sheet.specs.Survey.{Entry, survey}
 use Rattle.sheet.proofs.Surveys.{flat, Listed, survey_of_lem}
 use Rattle.sheet.proofs.Appended.{entry_of}
@@ -52,17 +51,17 @@ laid-listed at (c ∷ cs) r = (refl, curve_may c, record_whole c ((range_is (poi
 pub out_listed : (m : ℕ) (cs : List Curve) → AllInRange cs → Listed true 0 (laid_out m cs)
 out_listed m cs r = (refl, header_may, header-whole m, laid-listed (row_of Header).size cs r)
 
-replicate_ends : (first : Bool) (n : ℕ) → step_of first (replicate n erased) ≡ step.Ends
+replicate_ends : (first : Bool) (n : ℕ) → step_of first (replicate n erased) ≡ Ok None
 replicate_ends first n = erased_ends first (replicate n erased) (λ i l. get_or-replicate n i erased 0 (omega (arith, length-replicate {A = ℕ} n erased)))
 
 pub written-sheet : (m : ℕ) (cs : List Curve) (n : ℕ) → AllInRange cs → length (flat (laid_out m cs)) + n ≤ longest
-    → survey (flat (laid_out m cs) ++ replicate n erased) ≡ record { records = laid_out m cs; end = length (flat (laid_out m cs)); ending = Sound }
+    → survey (flat (laid_out m cs) ++ replicate n erased) ≡ record { records = laid_out m cs; end = length (flat (laid_out m cs)); ending = Ok tt }
 written-sheet m cs n r l =
     survey_of_lem (flat (laid_out m cs) ++ replicate n erased) (laid_out m cs) (replicate n erased)
     (omega (arith, length-append (flat (laid_out m cs)) (replicate n erased), length-replicate {A = ℕ} n erased))
     refl (out_listed m cs r) (replicate_ends false n)
 
-pub erased-sheet : (n : ℕ) → n ≤ longest → survey (replicate n erased) ≡ record { records = []; end = 0; ending = Sound }
+pub erased-sheet : (n : ℕ) → n ≤ longest → survey (replicate n erased) ≡ record { records = []; end = 0; ending = Ok tt }
 erased-sheet n l = survey_of_lem (replicate n erased) [] (replicate n erased) (omega (arith, length-replicate {A = ℕ} n erased)) refl tt (replicate_ends true n)
 
 -- ---- all points −1
@@ -94,5 +93,5 @@ minus_ranges [] a = tt
 minus_ranges (c ∷ cs) a = (minus_range (points_of c) a.0, minus_ranges cs a.1)
 
 pub minus_ones_lem : (m : ℕ) (cs : List Curve) (n : ℕ) → AllMinusOnes cs → length (flat (laid_out m cs)) + n ≤ longest
-    → survey (flat (laid_out m cs) ++ replicate n erased) ≡ record { records = laid_out m cs; end = length (flat (laid_out m cs)); ending = Sound }
+    → survey (flat (laid_out m cs) ++ replicate n erased) ≡ record { records = laid_out m cs; end = length (flat (laid_out m cs)); ending = Ok tt }
 minus_ones_lem m cs n a = written-sheet m cs n (minus_ranges cs a)

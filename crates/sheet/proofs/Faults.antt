@@ -17,21 +17,15 @@ use Rattle.refusal.specs.Answers.{refused}
 use Rattle.refusal.proofs.Answers.{by_test, by_order, no_answer, given_once, refused-back}
 use Rattle.record.specs.declared.kinds.Kind.{Kind}
 use Rattle.record.specs.declared.kinds.Kind.TheVariants.{Cubic}
-use Rattle.record.specs.declared.kinds.Named.{Named}
-use Rattle.record.specs.declared.kinds.Named.TheVariants as named_as
+use Rattle.std.specs.Prelude.{Option, Some, None, Ok, Err}
 use Rattle.record.specs.Kinds.{row_of, kinds}
-use Rattle.record.specs.Records.{longest, erased_end, erased_step, kind_in, sized_step, kind_step, step_of}
-use Rattle.record.specs.declared.steps.Step.{Step}
-use Rattle.record.specs.declared.steps.Step.TheVariants as step
+use Rattle.record.specs.Records.{Step, longest, erased_end, erased_step, kind_in, sized_step, kind_step, step_of}
 use Rattle.record.proofs.Shown.{fault_near as step-near, fault_placed as step-placed}
 use Rattle.record.proofs.Erased.{FirstLeft, left_behind}
 use Rattle.record.proofs.Table.{row-known}
-use Rattle.sheet.specs.declared.walks.Ending.{Ending}
-use Rattle.sheet.specs.declared.walks.Ending.TheVariants.{Sound, Faulty}
 use Rattle.sheet.specs.declared.walks.Walked.{Walked}
-use Rattle.sheet.specs.declared.Mission.{Mission}
-use Rattle.sheet.specs.declared.Checked.TheVariants as checked
-use Rattle.sheet.specs.Survey.{Entry, Survey, survey, outcome, curves, found, survey_from, survey_of}
+use Rattle.sheet.specs.Survey.{Ending, Entry, Survey, survey, outcome, curves, found, survey_from, survey_of}
+use Rattle.sheet.specs.declared.Checked.{Checked}
 use Rattle.sheet.specs.Promise.{told_of, Checks}
 use Rattle.sheet.specs.Walks.{Walks}
 use Rattle.sheet.proofs.Surveys.{flat, Listed, Ended, first_after, survey-long, faulty_of, faulty_once, sheet_parts}
@@ -62,22 +56,22 @@ walked_few {s} {first} h = omega (arith, h.curves_is, found_few first s)
 pub curves_few : (s : List ℕ) → length (curves (survey s).records) ≤ 113
 curves_few s = found_few true s
 
-pub check_few : (s : List ℕ) (m : Mission) (n : ℕ) → Checks s (checked.Sheet m n) → n ≤ 113
-check_few s m n = by (survey s).ending refl
+pub check_few : (s : List ℕ) (c : Checked) → Checks s (Ok c) → c.curves ≤ 113
+check_few s c = by (survey s).ending refl
   where
-    by : (how : Ending) → (survey s).ending ≡ how → Checks s (checked.Sheet m n) → n ≤ 113
-    by Sound q h = let e : n ≡ length (curves (survey s).records) = ap (λ (x : Mission × ℕ). x.1) (given_once (rw q at h)) in omega (arith, curves_few s)
-    by (Faulty f) q h = no_answer (rw q at h)
+    by : (how : Ending) → (survey s).ending ≡ how → Checks s (Ok c) → c.curves ≤ 113
+    by (Ok done) q h = let e : c.curves ≡ length (curves (survey s).records) = ap (λ (x : Checked). x.curves) (given_once (rw q at h)) in omega (arith, curves_few s)
+    by (Err f) q h = no_answer (rw q at h)
 
 -- ---- faults
 
 -- a fault stands within the bytes behind the records
-ended-near : (first : Bool) (at : ℕ) (tail : List ℕ) (x : Step) (f : Fault) → step_of first tail ≡ x → Ended at x (Faulty f) → f.place ≤ at + length tail
-ended-near first at tail step.Ends f q e = let z : ◌≡◌ {A = ℕ} 0 1 = cc in absurd (omega arith)
-ended-near first at tail (step.Fault r offset) f q e = omega (arith, step-near first tail r offset q, ap (λ (x : Fault). x.place) (faulty_once e))
-ended-near first at tail (step.Record k) f q e = absurd e
+ended-near : (first : Bool) (at : ℕ) (tail : List ℕ) (x : Step) (f : Fault) → step_of first tail ≡ x → Ended at x (Err f) → f.place ≤ at + length tail
+ended-near first at tail (Ok None) f q e = let z : ◌≡◌ {A = ℕ} 0 1 = cc in absurd (omega arith)
+ended-near first at tail (Err slip) f q e = omega (arith, step-near first tail slip.refusal slip.offset q, ap (λ (x : Fault). x.place) (faulty_once e))
+ended-near first at tail (Ok (Some k)) f q e = absurd e
 
-pub fault_inside : (first : Bool) (s : List ℕ) (f : Fault) → length s ≤ longest → (survey_of first s).ending ≡ Faulty f → f.place ≤ length s
+pub fault_inside : (first : Bool) (s : List ℕ) (f : Fault) → length s ≤ longest → (survey_of first s).ending ≡ Err f → f.place ≤ length s
 fault_inside first s f l e =
     let p = sheet_parts first s l in
     let v = survey_of first s in
@@ -86,7 +80,7 @@ fault_inside first s f l e =
     omega (arith, near, p.end_is, ap length p.parts, length-append (flat v.records) p.tail)
 
 module _ (s : List ℕ) where
-  fault_place : (f : Fault) → (survey s).ending ≡ Faulty f → f.place ≤ longest
+  fault_place : (f : Fault) → (survey s).ending ≡ Err f → f.place ≤ longest
   fault_place f e =
       by_order (length s) longest
       (λ l. omega (arith, l, fault_inside true s f l e))
@@ -100,17 +94,17 @@ module _ (s : List ℕ) where
 abbrev pub Placed : List ℕ → ℕ → Fault → Type 0
 Placed s end f = (f.refusal ≡ refusal.Leftover → FirstLeft s end f.place) × ((f.refusal ≡ refusal.Leftover → ⊥) → f.place ≡ end)
 
-ended-placed : (first : Bool) (front tail : List ℕ) (x : Step) (f : Fault) → step_of first tail ≡ x → Ended (length front) x (Faulty f) → Placed (front ++ tail) (length front) f
-ended-placed first front tail step.Ends f q e = let z : ◌≡◌ {A = ℕ} 0 1 = cc in absurd (omega arith)
-ended-placed first front tail (step.Fault r offset) f q e =
+ended-placed : (first : Bool) (front tail : List ℕ) (x : Step) (f : Fault) → step_of first tail ≡ x → Ended (length front) x (Err f) → Placed (front ++ tail) (length front) f
+ended-placed first front tail (Ok None) f q e = let z : ◌≡◌ {A = ℕ} 0 1 = cc in absurd (omega arith)
+ended-placed first front tail (Err slip) f q e =
     let same = faulty_once e in
-    let why : f.refusal ≡ r = ap (λ (x : Fault). x.refusal) same in
-    let there : f.place ≡ length front + offset = ap (λ (x : Fault). x.place) same in
-    let (left, first) = step-placed first tail r offset q in
+    let why : f.refusal ≡ slip.refusal = ap (λ (x : Fault). x.refusal) same in
+    let there : f.place ≡ length front + slip.offset = ap (λ (x : Fault). x.place) same in
+    let (left, first) = step-placed first tail slip.refusal slip.offset q in
     (λ l. subst (FirstLeft (front ++ tail) (length front)) (sym there) (left_behind front tail (left (sym why ∙ l))), λ n. omega (arith, there, first (λ l. n (why ∙ l))))
-ended-placed first front tail (step.Record k) f q e = absurd e
+ended-placed first front tail (Ok (Some k)) f q e = absurd e
 
-pub fault_placed : (s : List ℕ) (f : Fault) → Checks s (checked.Refused f) → Placed s (survey s).end f
+pub fault_placed : (s : List ℕ) (f : Fault) → Checks s (Err f) → Placed s (survey s).end f
 fault_placed s f h =
     by_order (length s) longest
     (λ l.
@@ -118,7 +112,7 @@ fault_placed s f h =
     let end : (survey s).end ≡ length (flat (survey s).records) = p.end_is ∙ omega arith in
     let first = first_after true (survey s).records in
     let last = subst (λ (how : Ending). Ended (survey s).end (step_of first p.tail) how) faulty p.last in
-    let placed = ended-placed first (flat (survey s).records) p.tail (step_of first p.tail) f refl (subst (λ (n : ℕ). Ended n (step_of first p.tail) (Faulty f)) end last) in
+    let placed = ended-placed first (flat (survey s).records) p.tail (step_of first p.tail) f refl (subst (λ (n : ℕ). Ended n (step_of first p.tail) (Err f)) end last) in
     subst (λ (n : ℕ). Placed s n f) (sym end) (subst (λ (t : List ℕ). Placed t (length (flat (survey s).records)) f) (sym p.parts) placed))
     (λ l.
     let long = survey-long true s l in
@@ -127,23 +121,23 @@ fault_placed s f h =
       λ _. ap (λ (x : Fault). x.place) same ∙ sym (ap (λ (v : Survey). v.end) long),
     ))
   where
-    faulty : (survey s).ending ≡ Faulty f
+    faulty : (survey s).ending ≡ Err f
     faulty = faulty_of s (refused-back told_of (outcome s) (sym h))
 
 -- ---- which faults there are
 abbrev FirstSix : Step → Type 0
-FirstSix step.Ends = Unit {0}
-FirstSix (step.Fault r offset) = number_of r ≤ 6
-FirstSix (step.Record k) = Unit {0}
+FirstSix (Ok None) = Unit {0}
+FirstSix (Err slip) = number_of slip.refusal ≤ 6
+FirstSix (Ok (Some k)) = Unit {0}
 
 sized-number : (k : Kind) (rest : List ℕ) → FirstSix (sized_step k rest)
 unfolding sized_step
 sized-number k rest =
     by_test FirstSix _ (λ _. omega arith) (λ _. by_test FirstSix _ (λ _. omega arith) (λ _. by_test FirstSix _ (λ _. omega arith) (λ _. tt)))
 
-kind-number : (first : Bool) (rest : List ℕ) (n : Named) → FirstSix (kind_step first rest n)
-kind-number first rest (named_as.Kind k) = by_test FirstSix _ (λ _. sized-number k rest) (λ _. omega arith)
-kind-number first rest named_as.Unknown = omega arith
+kind-number : (first : Bool) (rest : List ℕ) (n : Option Kind) → FirstSix (kind_step first rest n)
+kind-number first rest (Some k) = by_test FirstSix _ (λ _. sized-number k rest) (λ _. omega arith)
+kind-number first rest None = omega arith
 
 erased-number : (rest : List ℕ) → FirstSix (erased_step rest)
 unfolding erased_step erased_end
@@ -157,13 +151,13 @@ step-number first rest =
     (λ _. by_test FirstSix _ (λ _. erased-number rest) (λ _. by_test FirstSix _ (λ _. omega arith) (λ _. kind-number first rest (kind_in kinds rest)))))
 
 abbrev EndsInSix : Ending → Type 0
-EndsInSix Sound = Unit {0}
-EndsInSix (Faulty f) = number_of f.refusal ≤ 6
+EndsInSix (Ok done) = Unit {0}
+EndsInSix (Err f) = number_of f.refusal ≤ 6
 
 found_number : (at : ℕ) (rest : List ℕ) (later : ℕ → Survey) (x : Step) → FirstSix x → ((n : ℕ) → EndsInSix (later n).ending) → EndsInSix (found at rest later x).ending
-found_number at rest later step.Ends h k = tt
-found_number at rest later (step.Fault r offset) h k = h
-found_number at rest later (step.Record kind) h k = k (row_of kind).size
+found_number at rest later (Ok None) h k = tt
+found_number at rest later (Err slip) h k = h
+found_number at rest later (Ok (Some kind)) h k = k (row_of kind).size
 
 from-number : (most : ℕ) (first : Bool) (at : ℕ) (rest : List ℕ) → EndsInSix (survey_from most first at rest).ending
 unfolding survey_from

@@ -12,40 +12,34 @@ use Rattle.refusal.specs.declared.Fault.{Fault}
 use Rattle.refusal.specs.Answers.{Answer, given}
 use Rattle.refusal.proofs.Answers.{by_test, no_answer, given_once}
 use Rattle.curve.specs.declared.Curve.{Curve}
-use Rattle.record.specs.declared.writes.Put.TheVariants as put
+use Rattle.std.specs.Prelude.{Option, Some, None, Result, Ok, Err}
 use Rattle.record.specs.declared.kinds.Kind.TheVariants.{Header}
 use Rattle.record.specs.Kinds.{row_of, kind_of}
 use Rattle.record.specs.Records.{erased}
 use Rattle.record.specs.Promise.{bytes_after}
 use Rattle.record.proofs.Kept.{Kept, kept-all, put-kept}
-use Rattle.sheet.specs.declared.Mission.{Mission}
-use Rattle.sheet.specs.declared.Mission.TheVariants as mission
-use Rattle.sheet.specs.declared.walks.Ending.{Ending}
-use Rattle.sheet.specs.declared.walks.Ending.TheVariants.{Sound, Faulty}
-use Rattle.sheet.specs.declared.Change.{Change}
-use Rattle.sheet.specs.declared.Change.TheVariants as change
-use Rattle.sheet.specs.Survey.{survey, mission_of}
+use Rattle.sheet.specs.Survey.{Ending, survey, mission_of}
 use Rattle.sheet.specs.Promise.{Changes, starting, erasing, StartsFor, Erases, Appends}
 use Rattle.sheet.proofs.Changed.{appending-none, appending-sound, appending-faulty}
 
-pub refused-kept : {s t : List ℕ} {asked : Answer (List ℕ)} {f : Fault} → Changes s asked t (change.Refused f) → t ≡ s
+pub refused-kept : {s t : List ℕ} {asked : Answer (List ℕ)} {f : Fault} → Changes s asked t (Err f) → t ≡ s
 refused-kept {s} h = h.leaves ∙ ap (bytes_after s) (sym h.says)
 
-pub append-kept : (s : List ℕ) (c : Curve) (t : List ℕ) (r : Change) → Appends s c t r → Kept s t (survey s).end ((survey s).end + (row_of (kind_of c)).size)
-append-kept s c t (change.Refused f) h = kept-all (refused-kept h.changes)
-append-kept s c t change.Done h = by (survey s).ending (mission_of (survey s).records) refl refl
+pub append-kept : (s : List ℕ) (c : Curve) (t : List ℕ) (r : Result (Unit {0}) Fault) → Appends s c t r → Kept s t (survey s).end ((survey s).end + (row_of (kind_of c)).size)
+append-kept s c t (Err f) h = kept-all (refused-kept h.changes)
+append-kept s c t (Ok _) h = by (survey s).ending (mission_of (survey s).records) refl refl
   where
-    by : (how : Ending) (own : Mission) → (survey s).ending ≡ how → mission_of (survey s).records ≡ own → Kept s t (survey s).end ((survey s).end + (row_of (kind_of c)).size)
-    by Sound (mission.Number m) e own =
+    by : (how : Ending) (own : Option ℕ) → (survey s).ending ≡ how → mission_of (survey s).records ≡ own → Kept s t (survey s).end ((survey s).end + (row_of (kind_of c)).size)
+    by (Ok done) (Some m) e own =
         let asked = appending-sound s c e own in
-        put-kept s (survey s).end c t put.Done (record { says = h.changes.says ∙ asked; leaves = h.changes.leaves ∙ ap (bytes_after s) asked })
-    by Sound mission.None e own = no_answer (h.changes.says ∙ appending-none s c e own)
-    by (Faulty f) own e m = no_answer (h.changes.says ∙ appending-faulty s c e)
+        put-kept s (survey s).end c t (Ok tt) (record { says = h.changes.says ∙ asked; leaves = h.changes.leaves ∙ ap (bytes_after s) asked })
+    by (Ok done) None e own = no_answer (h.changes.says ∙ appending-none s c e own)
+    by (Err f) own e m = no_answer (h.changes.says ∙ appending-faulty s c e)
 
-pub start-length : (s : List ℕ) (m : ℕ) (t : List ℕ) (r : Change) → StartsFor s m t r → length t ≡ length s
+pub start-length : (s : List ℕ) (m : ℕ) (t : List ℕ) (r : Result (Unit {0}) Fault) → StartsFor s m t r → length t ≡ length s
 unfolding starting
-start-length s m t (change.Refused f) h = ap length (refused-kept h)
-start-length s m t change.Done h =
+start-length s m t (Err f) h = ap length (refused-kept h)
+start-length s m t (Ok _) h =
     by_test Long _ (λ _ e. no_answer e) (λ _. by_test Long _ (λ _ e. no_answer e) (λ n e.
     let fits : (row_of Header).size ≤ length s = ltb-false _ _ n in
     omega (arith, ap length (given_once e), length-replicate {A = ℕ} (length s - (row_of Header).size) erased)))
@@ -54,7 +48,7 @@ start-length s m t change.Done h =
     Long : Answer (List ℕ) → Type 0
     Long a = given t ≡ a → length t ≡ length s
 
-pub erase-length : (s t : List ℕ) (r : Change) → Erases s t r → length t ≡ length s
+pub erase-length : (s t : List ℕ) (r : Result (Unit {0}) Fault) → Erases s t r → length t ≡ length s
 unfolding erasing
-erase-length s t (change.Refused f) h = ap length (refused-kept h)
-erase-length s t change.Done h = by_test (λ (a : Answer (List ℕ)). given t ≡ a → length t ≡ length s) _ (λ _ e. no_answer e) (λ _ e. ap length (given_once e) ∙ length-replicate (length s) erased) h.says
+erase-length s t (Err f) h = ap length (refused-kept h)
+erase-length s t (Ok _) h = by_test (λ (a : Answer (List ℕ)). given t ≡ a → length t ≡ length s) _ (λ _ e. no_answer e) (λ _ e. ap length (given_once e) ∙ length-replicate (length s) erased) h.says

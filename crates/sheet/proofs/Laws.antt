@@ -19,8 +19,9 @@ use native.Mathlib.Omega.{arith}
 use lib.ListN.{length}
 use borrow.Author.Tests.{not-true, not-false, eqb-true, eqb-false, eq-eqb, ltb-true, ltb-false}
 use Rattle.refusal.specs.declared.Refusal.TheVariants as refusal
+use Rattle.refusal.specs.declared.Fault.{Fault}
 use Rattle.refusal.specs.Table.{Cause, First}
-use Rattle.refusal.specs.Answers.{Answer, refused, given, refuse, number_of_answer, then_given, with_given, when◌then◌else◌}
+use Rattle.refusal.specs.Answers.{Answer, refused, given, refuse, number_of_answer, then_given, with_given, answer_at, when◌then◌else◌}
 use Rattle.refusal.proofs.Answers.{by_test, no_answer, given_once}
 use Rattle.curve.specs.declared.Curve.{Curve}
 use Rattle.curve.specs.Curves.{points_of, InRange}
@@ -31,13 +32,9 @@ use Rattle.record.specs.Records.{all_within}
 use Rattle.record.specs.Promise.{putting_at}
 use Rattle.record.proofs.Table.{row-known}
 use Rattle.record.proofs.Formed.{record_points, range_is, range_paired}
-use Rattle.sheet.specs.declared.Mission.{Mission}
-use Rattle.sheet.specs.declared.Mission.TheVariants as mission
-use Rattle.sheet.specs.declared.walks.Ending.TheVariants.{Sound}
-use Rattle.sheet.specs.declared.Reading.{Reading}
-use Rattle.sheet.specs.declared.Reading.TheVariants as reading
+use Rattle.std.specs.Prelude.{Option, Some, None, Result, Ok, Err}
 use Rattle.sheet.specs.Survey.{Entry, Survey, survey, soundly, curves, nth, numbered, mission_of, is_other, chosen}
-use Rattle.sheet.specs.Promise.{answer_of_reading, points_of_entry, part, appending_to, appending, Reads, Finds}
+use Rattle.sheet.specs.Promise.{points_of_entry, part, appending_to, appending, Reads, Finds}
 use Rattle.sheet.proofs.Surveys.{end-within}
 use Rattle.sheet.proofs.Standing.{nth_last, nth_other, numbered-sound, numbered_of, entry_long}
 use Rattle.sheet.proofs.Missions.{chosen-sound, chosen-own, chosen-numbered}
@@ -46,24 +43,24 @@ use Rattle.sheet.proofs.Appended.{entry_of, survey_after, curves-one}
 
 -- ---- find and read
 
-abbrev pub Refuses : Reading → Type 0
-Refuses (reading.Points c) = ⊥
-Refuses (reading.Refused f) = Unit {0}
+abbrev pub Refuses : Result Curve Fault → Type 0
+Refuses (Ok c) = ⊥
+Refuses (Err f) = Unit {0}
 
 pub find-read :
-    (s : List ℕ) (expected number : ℕ) (r : Reading) (x : List ℕ) → Reads s expected number r → Finds s expected number x →
-    ((x ≡ []) ↔ Refuses r) × ((c : Curve) → r ≡ reading.Points c → points_of c ≡ points_in x)
+    (s : List ℕ) (expected number : ℕ) (r : Result Curve Fault) (x : List ℕ) → Reads s expected number r → Finds s expected number x →
+    ((x ≡ []) ↔ Refuses r) × ((c : Curve) → r ≡ Ok c → points_of c ≡ points_in x)
 find-read s expected number r x = go r (chosen expected number s) refl
   where
     go :
-        (r : Reading) (a : Answer Entry) → chosen expected number s ≡ a → answer_of_reading r ≡ with_given points_of_entry a → x ≡ part a →
-        ((x ≡ []) ↔ Refuses r) × ((c : Curve) → r ≡ reading.Points c → points_of c ≡ points_in x)
-    go (reading.Points c) (refused f) q e p = no_answer e
-    go (reading.Points c) (given y) q e p =
+        (r : Result Curve Fault) (a : Answer Entry) → chosen expected number s ≡ a → with_given points_of (answer_at r) ≡ with_given points_of_entry a → x ≡ part a →
+        ((x ≡ []) ↔ Refuses r) × ((c : Curve) → r ≡ Ok c → points_of c ≡ points_in x)
+    go (Ok c) (refused f) q e p = no_answer e
+    go (Ok c) (given y) q e p =
         let long = entry_long (numbered_of s number (chosen-numbered s expected number q).0).stands in
         ((λ z. let l : length y.bytes ≡ 0 = ap length (sym p ∙ z) in omega arith, λ z. absurd z), λ d z. let same : c ≡ d = cc in ap points_of (sym same) ∙ given_once e ∙ ap points_in (sym p))
-    go (reading.Refused f) (refused g) q e p = ((λ _. tt, λ _. p), λ d z. let n : ◌≡◌ {A = ℕ} 0 1 = cc in absurd (omega arith))
-    go (reading.Refused f) (given y) q e p = no_answer (sym e)
+    go (Err f) (refused g) q e p = ((λ _. tt, λ _. p), λ d z. let n : ◌≡◌ {A = ℕ} 0 1 = cc in absurd (omega arith))
+    go (Err f) (given y) q e p = no_answer (sym e)
 
 pub numbered_in_range : (s : List ℕ) (number : ℕ) {e : Entry} → numbered number s ≡ given e → InRange (points_of_entry e)
 unfolding points_in
@@ -76,8 +73,8 @@ numbered_in_range s number {e} q =
 -- ---- what read and append refuse on a sound sheet
 
 -- a header with another number
-abbrev pub other_mission : ℕ → Mission → Cause
-other_mission expected own = record { refusal = refusal.OtherMission; holds = (m : ℕ) × (own ≡ mission.Number m) × (m ≡ expected → ⊥) }
+abbrev pub other_mission : ℕ → Option ℕ → Cause
+other_mission expected own = record { refusal = refusal.OtherMission; holds = (m : ℕ) × (own ≡ Some m) × (m ≡ expected → ⊥) }
 
 -- no curve of that number
 abbrev pub no_curve : ℕ → List Entry → Cause
@@ -95,18 +92,18 @@ nth_order (suc (suc k)) (e ∷ es) =
     (nth_order (suc k) es)
 
 -- the mission decides first
-mission_order : (expected : ℕ) (own : Mission) (cs : List Cause) (a : Answer Entry) → First cs (number_of_answer a)
+mission_order : (expected : ℕ) (own : Option ℕ) (cs : List Cause) (a : Answer Entry) → First cs (number_of_answer a)
     → First (other_mission expected own ∷ cs) (number_of_answer (when is_other expected own then refuse refusal.OtherMission 0 else a))
 unfolding when◌then◌else◌
-mission_order expected mission.None cs a h = inr ((λ x. let z : ◌≡◌ {A = ℕ} 0 1 = cc x.1 in omega arith), h)
-mission_order expected (mission.Number m) cs a h =
-    by_test (λ (b : Answer Entry). First (other_mission expected (mission.Number m) ∷ cs) (number_of_answer b)) _
+mission_order expected None cs a h = inr ((λ x. let z : ◌≡◌ {A = ℕ} 0 1 = cc x.1 in omega arith), h)
+mission_order expected (Some m) cs a h =
+    by_test (λ (b : Answer Entry). First (other_mission expected (Some m) ∷ cs) (number_of_answer b)) _
     (λ o. inl ((m, refl, eqb-false _ _ (not-true _ o)), refl))
     (λ o. inr ((λ x. let same : m ≡ x.0 = cc x.1 in x.2 (sym same ∙ eqb-true _ _ (not-false _ o))), h))
 
 -- nothing but FF
-abbrev pub no_mission : Mission → Cause
-no_mission own = record { refusal = refusal.NoMission; holds = own ≡ mission.None }
+abbrev pub no_mission : Option ℕ → Cause
+no_mission own = record { refusal = refusal.NoMission; holds = own ≡ None }
 
 -- an erased tail shorter than the record
 abbrev pub no_room : List ℕ → Curve → Cause
@@ -125,12 +122,12 @@ putting_order s c =
     Room : Answer (List ℕ) → Type 0
     Room a = First (no_room s c ∷ []) (number_of_answer a)
 
-appending_order : (s : List ℕ) (c : Curve) (own : Mission) → First (no_mission own ∷ out_of_range (points_of c) ∷ no_room s c ∷ []) (number_of_answer (appending_to s c own))
-appending_order s c mission.None = inl (refl, refl)
-appending_order s c (mission.Number m) = inr ((λ e. let z : ◌≡◌ {A = ℕ} 0 1 = cc in omega arith), putting_order s c)
+appending_order : (s : List ℕ) (c : Curve) (own : Option ℕ) → First (no_mission own ∷ out_of_range (points_of c) ∷ no_room s c ∷ []) (number_of_answer (appending_to s c own))
+appending_order s c None = inl (refl, refl)
+appending_order s c (Some m) = inr ((λ e. let z : ◌≡◌ {A = ℕ} 0 1 = cc in omega arith), putting_order s c)
 
-module _ (s : List ℕ) (sound : (survey s).ending ≡ Sound) where
-  abbrev own : Mission
+module _ (s : List ℕ) (sound : (survey s).ending ≡ Ok tt) where
+  abbrev own : Option ℕ
   own = mission_of (survey s).records
 
   pub read_order : (expected number : ℕ) → First (other_mission expected own ∷ no_curve number (curves (survey s).records) ∷ []) (number_of_answer (chosen expected number s))
@@ -146,21 +143,21 @@ module _ (s : List ℕ) (sound : (survey s).ending ≡ Sound) where
 
   -- ---- append and then read
 
-  module _ {m : ℕ} (number_is : own ≡ mission.Number m) (c : Curve) (t : List ℕ) (done : appending s c ≡ given t) where
-    listed : (all_within (numbers_of (points_of c)) ≡ true) × (survey t ≡ record { records = (survey s).records ++ (entry_of (survey s).end c ∷ []); end = (survey s).end + length (record_of c); ending = Sound })
+  module _ {m : ℕ} (number_is : own ≡ Some m) (c : Curve) (t : List ℕ) (done : appending s c ≡ given t) where
+    listed : (all_within (numbers_of (points_of c)) ≡ true) × (survey t ≡ record { records = (survey s).records ++ (entry_of (survey s).end c ∷ []); end = (survey s).end + length (record_of c); ending = Ok tt })
     listed = survey_after s c t sound number_is (end-within true s) (sym done ∙ appending-sound s c sound number_is)
 
-    pub append-listed : survey t ≡ record { records = (survey s).records ++ (entry_of (survey s).end c ∷ []); end = (survey s).end + length (record_of c); ending = Sound }
+    pub append-listed : survey t ≡ record { records = (survey s).records ++ (entry_of (survey s).end c ∷ []); end = (survey s).end + length (record_of c); ending = Ok tt }
     append-listed = listed.1
 
     pub append-mission : mission_of (survey t).records ≡ own
     append-mission = ap (λ (v : Survey). mission_of v.records) append-listed ∙ by (survey s).records number_is
       where
-        by : (es : List Entry) → mission_of es ≡ mission.Number m → mission_of (es ++ (entry_of (survey s).end c ∷ [])) ≡ mission_of es
+        by : (es : List Entry) → mission_of es ≡ Some m → mission_of (es ++ (entry_of (survey s).end c ∷ [])) ≡ mission_of es
         by [] e = let z : ◌≡◌ {A = ℕ} 0 1 = cc in absurd (omega arith)
         by (x ∷ es) e = refl
 
-    sound_after : (survey t).ending ≡ Sound
+    sound_after : (survey t).ending ≡ Ok tt
     sound_after = ap (λ (v : Survey). v.ending) append-listed
 
     numbered_after : (number : ℕ) → numbered number t ≡ nth number (curves (survey s).records ++ (entry_of (survey s).end c ∷ []))

@@ -1,4 +1,4 @@
--- What the proofs share, and, in Surveys, Moved, Missions, Places, Once, Laws, Kept, Ahead, Faults, Examples and Started, what other crates may cite.
+-- What the proofs share, and, in Surveys, Moved, Missions, Places, Once, Laws, Kept, Ahead, Next, Faults, Examples and Started, what other crates may cite.
 pub mod Surveys
 pub mod Moved
 pub mod Standing
@@ -12,6 +12,7 @@ pub mod Once
 pub mod Laws
 pub mod Kept
 pub mod Ahead
+pub mod Next
 pub mod Faults
 pub mod Examples
 pub mod Started

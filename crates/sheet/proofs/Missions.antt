@@ -23,11 +23,8 @@ use Rattle.record.specs.Numbers.{mission_in}
 use Rattle.record.specs.Kinds.{row_of}
 use Rattle.record.specs.Records.{longest}
 use Rattle.record.proofs.Headers.{first-header, later_plain}
-use Rattle.sheet.specs.declared.Mission.{Mission}
-use Rattle.sheet.specs.declared.Mission.TheVariants as mission
-use Rattle.sheet.specs.declared.walks.Ending.{Ending}
-use Rattle.sheet.specs.declared.walks.Ending.TheVariants.{Sound, Faulty}
-use Rattle.sheet.specs.Survey.{Entry, Survey, survey, soundly, curves, nth, numbered, mission_of, is_other, chosen}
+use Rattle.std.specs.Prelude.{Option, Some, None, Ok, Err}
+use Rattle.sheet.specs.Survey.{Ending, Entry, Survey, survey, soundly, curves, nth, numbered, mission_of, is_other, chosen}
 use Rattle.sheet.proofs.Surveys.{flat, Listed, first_after, survey-long, sheet_parts}
 use Rattle.sheet.proofs.Standing.{numbered-sound}
 
@@ -57,9 +54,9 @@ first-is-header s =
 
 -- ---- the number
 
-pub record MissionAt (s : List ℕ) (own : Mission) (end : ℕ) : Type 0 where
-  pub none : end ≡ 0 → own ≡ mission.None
-  pub some : (end ≡ 0 → ⊥) → ((row_of Header).size ≤ length s) × (own ≡ mission.Number (mission_in s))
+pub record MissionAt (s : List ℕ) (own : Option ℕ) (end : ℕ) : Type 0 where
+  pub none : end ≡ 0 → own ≡ None
+  pub some : (end ≡ 0 → ⊥) → ((row_of Header).size ≤ length s) × (own ≡ Some (mission_in s))
 
 pub mission-at : (s : List ℕ) → MissionAt s (mission_of (survey s).records) (survey s).end
 mission-at s =
@@ -88,12 +85,12 @@ mission-at s =
         in
         record {
           none = λ z. absurd (omega arith);
-          some = λ _. (omega (arith, ap length parts), (λ i. mission.Number (byte 4 (omega arith) i + 256 * byte 5 (omega arith) i)));
+          some = λ _. (omega (arith, ap length parts), (λ i. Some (byte 4 (omega arith) i + 256 * byte 5 (omega arith) i)));
         }
 
-abbrev pub MissionSmall : Mission → Type 0
-MissionSmall mission.None = Unit {0}
-MissionSmall (mission.Number m) = m < 65536
+abbrev pub MissionSmall : Option ℕ → Type 0
+MissionSmall None = Unit {0}
+MissionSmall (Some m) = m < 65536
 
 pub mission_small : (s : List ℕ) → ((i : ℕ) → Fits w8 (get_or s i 0)) → MissionSmall (mission_of (survey s).records)
 mission_small s bytes =
@@ -101,28 +98,28 @@ mission_small s bytes =
     (λ z. subst MissionSmall (sym ((mission-at s).none (omega arith))) tt)
     (λ n. subst MissionSmall (sym ((mission-at s).some (λ z. omega arith)).1) (omega (arith, bytes 4, bytes 5)))
 
-pub mission_after : (es : List Entry) {m : ℕ} → mission_of es ≡ mission.Number m → first_after true es ≡ false
+pub mission_after : (es : List Entry) {m : ℕ} → mission_of es ≡ Some m → first_after true es ≡ false
 mission_after [] e = let z : ◌≡◌ {A = ℕ} 0 1 = cc in absurd (omega arith)
 mission_after (x ∷ es) e = refl
 
 -- ---- under an expected mission
 
 module _ (s : List ℕ) (expected number : ℕ) where
-  pub chosen-sound : (survey s).ending ≡ Sound →
+  pub chosen-sound : (survey s).ending ≡ Ok tt →
       chosen expected number s ≡ (when is_other expected (mission_of (survey s).records) then refuse refusal.OtherMission 0 else numbered number s)
   chosen-sound e =
       ap (λ (how : Ending). then_given (λ es. when is_other expected (mission_of es) then refuse refusal.OtherMission 0 else nth number (curves es)) (soundly how (survey s).records)) e
       ∙ ap (λ (a : Answer Entry). when is_other expected (mission_of (survey s).records) then refuse refusal.OtherMission 0 else a) (sym (numbered-sound s number e))
 
-  pub chosen-own : (survey s).ending ≡ Sound → is_other expected (mission_of (survey s).records) ≡ false → chosen expected number s ≡ numbered number s
+  pub chosen-own : (survey s).ending ≡ Ok tt → is_other expected (mission_of (survey s).records) ≡ false → chosen expected number s ≡ numbered number s
   unfolding when◌then◌else◌
   chosen-own e o = chosen-sound e ∙ ap (λ (b : Bool). when b then refuse refusal.OtherMission 0 else numbered number s) o
 
-  pub chosen_other : (survey s).ending ≡ Sound → is_other expected (mission_of (survey s).records) ≡ true → chosen expected number s ≡ refuse refusal.OtherMission 0
+  pub chosen_other : (survey s).ending ≡ Ok tt → is_other expected (mission_of (survey s).records) ≡ true → chosen expected number s ≡ refuse refusal.OtherMission 0
   unfolding when◌then◌else◌
   chosen_other e o = chosen-sound e ∙ ap (λ (b : Bool). when b then refuse refusal.OtherMission 0 else numbered number s) o
 
-  pub chosen-faulty : {f : Fault} → (survey s).ending ≡ Faulty f → chosen expected number s ≡ refused f
+  pub chosen-faulty : {f : Fault} → (survey s).ending ≡ Err f → chosen expected number s ≡ refused f
   chosen-faulty e =
       ap (λ (how : Ending). then_given (λ es. when is_other expected (mission_of es) then refuse refusal.OtherMission 0 else nth number (curves es)) (soundly how (survey s).records)) e
 
@@ -130,7 +127,7 @@ module _ (s : List ℕ) (expected number : ℕ) where
   chosen-numbered {e} q = by (survey s).ending refl
     where
       by : (how : Ending) → (survey s).ending ≡ how → (numbered number s ≡ given e) × (is_other expected (mission_of (survey s).records) ≡ false)
-      by Sound h =
+      by (Ok done) h =
           by_test (λ (a : Answer Entry). a ≡ given e → (numbered number s ≡ given e) × (is_other expected (mission_of (survey s).records) ≡ false)) _
           (λ _ z. no_answer (sym z)) (λ o z. (z, o)) (sym (chosen-sound h) ∙ q)
-      by (Faulty f) h = no_answer (sym (sym (chosen-faulty h) ∙ q))
+      by (Err f) h = no_answer (sym (sym (chosen-faulty h) ∙ q))

@@ -9,18 +9,15 @@ use Prim.Native.Nat.{ℕ, zero, suc, ◌+◌}
 use native.Mathlib.Omega.{arith}
 use lib.ListN.{length, drop}
 use Rattle.refusal.specs.Answers.{when◌then◌else◌}
-use Rattle.record.specs.declared.steps.Step.{Step}
-use Rattle.record.specs.declared.steps.Step.TheVariants as step
+use Rattle.std.specs.Prelude.{Some, None, Ok, Err}
 use Rattle.record.specs.Kinds.{row_of}
-use Rattle.record.specs.Records.{step_of}
-use Rattle.sheet.specs.declared.walks.Ending.{Ending}
-use Rattle.sheet.specs.declared.walks.Ending.TheVariants.{Sound, Faulty}
-use Rattle.sheet.specs.Survey.{Entry, Survey, entry_at, nothing, before, found, survey_from, curves}
+use Rattle.record.specs.Records.{Step, step_of}
+use Rattle.sheet.specs.Survey.{Ending, Entry, Survey, entry_at, nothing, before, found, survey_from, curves}
 use Rattle.sheet.proofs.Surveys.{reads}
 
 abbrev pub moved_ending : ℕ → Ending → Ending
-moved_ending d Sound = Sound
-moved_ending d (Faulty f) = Faulty (record { refusal = f.refusal; place = d + f.place })
+moved_ending d (Ok done) = Ok done
+moved_ending d (Err f) = Err (record { refusal = f.refusal; place = d + f.place })
 
 abbrev pub moved_entry : ℕ → Entry → Entry
 moved_entry d e = record { place = d + e.place; kind = e.kind; bytes = e.bytes }
@@ -37,9 +34,9 @@ from-moved d (suc most) first at rest = by_step (step_of first rest) (λ p t. fr
     Later p size = survey_from most false (p + size) (drop size rest)
 
     by_step : (x : Step) → ((p : ℕ) (t : List ℕ) → survey_from most false (d + p) t ≡ moved d (survey_from most false p t)) → found (d + at) rest (Later (d + at)) x ≡ moved d (found at rest (Later at) x)
-    by_step step.Ends f = refl
-    by_step (step.Fault r offset) f = ap (λ (n : ℕ). nothing (d + at) (Faulty (record { refusal = r; place = n }))) (omega arith)
-    by_step (step.Record k) f =
+    by_step (Ok None) f = refl
+    by_step (Err slip) f = ap (λ (n : ℕ). nothing (d + at) (Err (record { refusal = slip.refusal; place = n }))) (omega arith)
+    by_step (Ok (Some k)) f =
         let size = (row_of k).size in
         let there : d + at + size ≡ d + (at + size) = omega arith in
         ap (before (entry_at (d + at) rest k)) (ap (λ (n : ℕ). survey_from most false n (drop size rest)) there ∙ f (at + size) (drop size rest))

@@ -14,13 +14,12 @@ use lib.ListN.{length, take, drop, get_or, length-drop}
 use lib.Seq.{get_or-take}
 use Rattle.refusal.specs.Answers.{Answer, refused, given, with_given, when◌then◌else◌}
 use Rattle.refusal.proofs.Answers.{no_answer, given_once}
-use Rattle.curve.specs.declared.Curve.{Curve}
 use Rattle.record.specs.declared.kinds.Kind.{Kind}
 use Rattle.record.specs.declared.kinds.Kind.TheVariants.{Header, Cubic, Quintic}
-use Rattle.record.specs.declared.kinds.Named.TheVariants as named_as
+use Rattle.std.specs.Prelude.{Some, None}
 use Rattle.record.specs.Kinds.{row_of, kinds, points_in}
 use Rattle.record.specs.Records.{kind_in, may_stand}
-use Rattle.record.specs.declared.points.Held.TheVariants as held
+use Rattle.record.specs.declared.points.Held.{Held}
 use Rattle.record.specs.Promise.{BeginsCurve, IsHeld}
 use Rattle.record.proofs.Table.{known-kind, same_kind}
 use Rattle.record.proofs.Headers.{first-header}
@@ -48,7 +47,7 @@ module _ {s : List ℕ} {number place long : ℕ} (h : Stands s number place lon
   pub bytes-at : take long (drop place s) ≡ h.entry.bytes
   bytes-at = (λ i. take (sym h.long_is i) (drop (sym h.place_is i) s)) ∙ choice.stands.there
 
-  pub kind_at : kind_in kinds (drop place s) ≡ named_as.Kind h.entry.kind
+  pub kind_at : kind_in kinds (drop place s) ≡ Some h.entry.kind
   kind_at =
       let head : (i : ℕ) → i < long → get_or (drop place s) i 0 ≡ get_or h.entry.bytes i 0 =
       λ i l. sym (get_or-take long (drop place s) i 0 l) ∙ ap (λ (l : List ℕ). get_or l i 0) bytes-at
@@ -61,13 +60,13 @@ module _ {s : List ℕ} {number place long : ℕ} (h : Stands s number place lon
       let long = length-drop place s in
       record { long = omega (arith, fits, head_at); name = kind_at; curve = choice.curve; fits = omega (arith, fits, h.long_is, choice.stands.whole.long) }
 
-  pub held-nothing : IsHeld (drop place s) held.None → ⊥
+  pub held-nothing : IsHeld (drop place s) None → ⊥
   held-nothing n = n h.entry.kind begins
 
-  pub held-curve : (c : Curve) (size : ℕ) → IsHeld (drop place s) (held.Curve c size) → HasCurve s number c × (size ≡ long)
-  held-curve c size (k, b, n, p) =
+  pub held-curve : (x : Held) → IsHeld (drop place s) (Some x) → HasCurve s number x.curve × (x.size ≡ long)
+  held-curve x (k, b, n, p) =
       let same : h.entry.kind ≡ k = cc (sym kind_at ∙ b.name) in
-      let is : size ≡ long = n ∙ ap (λ (k : Kind). (row_of k).size) (sym same) ∙ sym choice.stands.whole.long ∙ h.long_is in
+      let is : x.size ≡ long = n ∙ ap (λ (k : Kind). (row_of k).size) (sym same) ∙ sym choice.stands.whole.long ∙ h.long_is in
       (ap given (p ∙ ap (λ (m : ℕ). points_in (take m (drop place s))) is ∙ ap points_in bytes-at) ∙ sym (ap (with_given points_of_entry) h.numbered_is), is)
 
 -- ---- one record after another

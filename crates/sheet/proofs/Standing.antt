@@ -20,9 +20,8 @@ use Rattle.record.specs.Kinds.{row_of}
 use Rattle.record.proofs.Shown.{Whole}
 use Rattle.record.proofs.Table.{row-known}
 use Rattle.record.specs.Records.{longest}
-use Rattle.sheet.specs.declared.walks.Ending.{Ending}
-use Rattle.sheet.specs.declared.walks.Ending.TheVariants.{Sound, Faulty}
-use Rattle.sheet.specs.Survey.{Entry, Survey, survey, soundly, curves, nth, numbered}
+use Rattle.std.specs.Prelude.{Ok, Err}
+use Rattle.sheet.specs.Survey.{Ending, Entry, Survey, survey, soundly, curves, nth, numbered}
 use Rattle.sheet.proofs.Surveys.{flat, Listed, survey-long, sheet_parts, short_of}
 
 pub record Standing (s : List ℕ) (e : Entry) : Type 0 where
@@ -108,14 +107,14 @@ nth_stands s number = nth-curve s number (curves (survey s).records) (all-curves
 -- ---- the curve of a number
 
 module _ (s : List ℕ) (number : ℕ) where
-  pub numbered-sound : (survey s).ending ≡ Sound → numbered number s ≡ nth number (curves (survey s).records)
+  pub numbered-sound : (survey s).ending ≡ Ok tt → numbered number s ≡ nth number (curves (survey s).records)
   numbered-sound e = ap (λ (how : Ending). then_given (λ es. nth number (curves es)) (soundly how (survey s).records)) e
 
-  pub numbered-faulty : {f : Fault} → (survey s).ending ≡ Faulty f → numbered number s ≡ refused f
+  pub numbered-faulty : {f : Fault} → (survey s).ending ≡ Err f → numbered number s ≡ refused f
   numbered-faulty e = ap (λ (how : Ending). then_given (λ es. nth number (curves es)) (soundly how (survey s).records)) e
 
 pub record Numbered (s : List ℕ) (number : ℕ) (e : Entry) : Type 0 where
-  pub sound : (survey s).ending ≡ Sound
+  pub sound : (survey s).ending ≡ Ok tt
   pub short : length s ≤ longest
   pub listed : nth number (curves (survey s).records) ≡ given e
   pub stands : Standing s e
@@ -125,11 +124,11 @@ pub numbered_of : (s : List ℕ) (number : ℕ) {e : Entry} → numbered number 
 numbered_of s number {e} q = by (survey s).ending refl
   where
     by : (how : Ending) → (survey s).ending ≡ how → Numbered s number e
-    by Sound h =
+    by (Ok done) h =
         let n = sym (numbered-sound s number h) ∙ q in
         let w = nth_stands s number n in
         record { sound = h; short = short_of s h; listed = n; stands = w.0; curve = w.1 }
-    by (Faulty f) h = no_answer (sym (sym (numbered-faulty s number h) ∙ q))
+    by (Err f) h = no_answer (sym (sym (numbered-faulty s number h) ∙ q))
 
 -- a record is not empty
 pub entry_long : {s : List ℕ} {e : Entry} → Standing s e → 4 < length e.bytes

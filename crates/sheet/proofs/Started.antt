@@ -29,12 +29,8 @@ use Rattle.record.specs.Promise.{bytes_after}
 use Rattle.record.proofs.Erased.{AllErased}
 use Rattle.record.proofs.Shown.{erased_ends, ends_erased}
 use Rattle.record.proofs.Headers.{header-mission}
-use Rattle.sheet.specs.declared.Mission.TheVariants as mission
-use Rattle.sheet.specs.declared.walks.Ending.{Ending}
-use Rattle.sheet.specs.declared.walks.Ending.TheVariants.{Sound}
-use Rattle.sheet.specs.declared.Reading.TheVariants as reading
-use Rattle.sheet.specs.declared.Change.TheVariants as change
-use Rattle.sheet.specs.Survey.{Entry, Survey, survey, soundly, curves, nth, mission_of, is_other, chosen}
+use Rattle.std.specs.Prelude.{Some, None, Ok}
+use Rattle.sheet.specs.Survey.{Ending, Entry, Survey, survey, soundly, curves, nth, mission_of, is_other, chosen}
 use Rattle.sheet.specs.Promise.{points_of_entry, starting, appending, curves_in, Reads}
 use Rattle.sheet.proofs.Surveys.{flat, Ended, first_after, end-within, survey_of_lem, short_of, sheet_parts}
 use Rattle.sheet.proofs.Standing.{numbered_of, numbered-sound}
@@ -45,29 +41,29 @@ use Rattle.sheet.proofs.Examples.{header_entry, written-sheet}
 
 -- ---- the number that is expected
 
-pub read-mission : (s : List ℕ) (expected number : ℕ) (c : Curve) → Reads s expected number (reading.Points c) → mission_of (survey s).records ≡ mission.Number expected
+pub read-mission : (s : List ℕ) (expected number : ℕ) (c : Curve) → Reads s expected number (Ok c) → mission_of (survey s).records ≡ Some expected
 read-mission s expected number c = by (chosen expected number s) refl
   where
-    own : (es : List Entry) {e : Entry} → nth number (curves es) ≡ given e → is_other expected (mission_of es) ≡ false → mission_of es ≡ mission.Number expected
+    own : (es : List Entry) {e : Entry} → nth number (curves es) ≡ given e → is_other expected (mission_of es) ≡ false → mission_of es ≡ Some expected
     own [] n o = no_answer (sym n)
-    own (x ∷ es) n o = ap mission.Number (eqb-true _ _ (not-false _ o))
+    own (x ∷ es) n o = ap Some (eqb-true _ _ (not-false _ o))
 
-    by : (a : Answer Entry) → chosen expected number s ≡ a → given (points_of c) ≡ with_given points_of_entry a → mission_of (survey s).records ≡ mission.Number expected
+    by : (a : Answer Entry) → chosen expected number s ≡ a → given (points_of c) ≡ with_given points_of_entry a → mission_of (survey s).records ≡ Some expected
     by (refused f) q h = no_answer h
     by (given e) q h = let n = chosen-numbered s expected number q in own (survey s).records (numbered_of s number n.0).listed n.1
 
-erased-found : (s : List ℕ) → length s ≤ longest → AllErased s → survey s ≡ record { records = []; end = 0; ending = Sound }
+erased-found : (s : List ℕ) → length s ≤ longest → AllErased s → survey s ≡ record { records = []; end = 0; ending = Ok tt }
 erased-found s l all = survey_of_lem s [] s l refl tt (erased_ends true s all)
 
-pub erased-none : (s : List ℕ) → length s ≤ longest → AllErased s → ((survey s).ending ≡ Sound) × (mission_of (survey s).records ≡ mission.None)
+pub erased-none : (s : List ℕ) → length s ≤ longest → AllErased s → ((survey s).ending ≡ Ok tt) × (mission_of (survey s).records ≡ None)
 erased-none s l all = let v = erased-found s l all in (ap (λ (v : Survey). v.ending) v, ap (λ (v : Survey). mission_of v.records) v)
 
-pub none-erased : (s : List ℕ) → (survey s).ending ≡ Sound → mission_of (survey s).records ≡ mission.None → AllErased s
+pub none-erased : (s : List ℕ) → (survey s).ending ≡ Ok tt → mission_of (survey s).records ≡ None → AllErased s
 none-erased s sound none =
     let p = sheet_parts true s (short_of s sound) in
     by (survey s).records none p.tail p.parts (subst (λ (how : Ending). Ended (survey s).end (step_of (first_after true (survey s).records) p.tail) how) sound p.last)
   where
-    by : (es : List Entry) → mission_of es ≡ mission.None → (tail : List ℕ) → s ≡ flat es ++ tail → Ended (survey s).end (step_of (first_after true es) tail) Sound → AllErased s
+    by : (es : List Entry) → mission_of es ≡ None → (tail : List ℕ) → s ≡ flat es ++ tail → Ended (survey s).end (step_of (first_after true es) tail) (Ok tt) → AllErased s
     by [] e tail parts last = subst AllErased (sym parts) (ends_erased true tail (ended (survey s).end (step_of true tail) last))
     by (x ∷ es) e tail parts last = let z : ◌≡◌ {A = ℕ} 0 1 = cc in absurd (omega arith)
 
@@ -83,7 +79,7 @@ pub start_forgets : (s t : List ℕ) (m : ℕ) → length s ≡ length t → sta
 unfolding starting
 start_forgets s t m e = rw e
 
-pub start-listed : (s : List ℕ) (m : ℕ) (t : List ℕ) → starting s m ≡ given t → survey t ≡ record { records = header_entry m ∷ []; end = (row_of Header).size; ending = Sound }
+pub start-listed : (s : List ℕ) (m : ℕ) (t : List ℕ) → starting s m ≡ given t → survey t ≡ record { records = header_entry m ∷ []; end = (row_of Header).size; ending = Ok tt }
 unfolding starting
 start-listed s m t =
     by_test Lists _ (λ _ e. no_answer (sym e)) (λ l. by_test Lists _ (λ _ e. no_answer (sym e)) (λ n e.
@@ -92,7 +88,7 @@ start-listed s m t =
     ap survey (sym (given_once e)) ∙ written-sheet m [] (length s - (row_of Header).size) tt (omega arith)))
   where
     Lists : Answer (List ℕ) → Type 0
-    Lists a = a ≡ given t → survey t ≡ record { records = header_entry m ∷ []; end = (row_of Header).size; ending = Sound }
+    Lists a = a ≡ given t → survey t ≡ record { records = header_entry m ∷ []; end = (row_of Header).size; ending = Ok tt }
 
 -- ---- start, and then append
 
@@ -102,8 +98,8 @@ appending_all s (c ∷ cs) = then_given (λ t. appending_all t cs) (appending s 
 
 -- a sound sheet of a mission, with these curves
 pub record Bears (s : List ℕ) (m : ℕ) (ps : List (List Pair)) : Type 0 where
-  pub sound : (survey s).ending ≡ Sound
-  pub own : mission_of (survey s).records ≡ mission.Number m
+  pub sound : (survey s).ending ≡ Ok tt
+  pub own : mission_of (survey s).records ≡ Some m
   pub lists : curves_in s ≡ given ps
 
 one_more : (s : List ℕ) (m : ℕ) (ps : List (List Pair)) (c : Curve) (t : List ℕ) → Bears s m ps → appending s c ≡ given t → Bears t m (ps ++ (points_of c ∷ []))
@@ -112,7 +108,7 @@ one_more s m ps c t h e =
       sound = ap (λ (v : Survey). v.ending) (append-listed s h.sound h.own c t e);
       own = append-mission s h.sound h.own c t e ∙ h.own;
       lists =
-          (append-sound s c h.sound h.own (end-within true s) {r = change.Done} (record { says = sym e; leaves = sym (ap (bytes_after s) e) })).lists refl
+          (append-sound s c h.sound h.own (end-within true s) {r = Ok tt} (record { says = sym e; leaves = sym (ap (bytes_after s) e) })).lists refl
           ∙ ap (with_given (λ (old : List (List Pair)). old ++ (points_of c ∷ []))) h.lists;
     }
 
@@ -141,7 +137,7 @@ pick_points zero (e ∷ es) = refl
 pick_points (suc zero) (e ∷ es) = refl
 pick_points (suc (suc k)) (e ∷ es) = pick_points (suc k) es
 
-in_sound : (s : List ℕ) → (survey s).ending ≡ Sound → curves_in s ≡ given (map points_of_entry (curves (survey s).records))
+in_sound : (s : List ℕ) → (survey s).ending ≡ Ok tt → curves_in s ≡ given (map points_of_entry (curves (survey s).records))
 unfolding curves_in
 in_sound s e = ap (λ (how : Ending). with_given (λ es. map points_of_entry (curves es)) (soundly how (survey s).records)) e
 
@@ -153,7 +149,7 @@ module _ (s : List ℕ) (m : ℕ) (cs : List Curve) (t u : List ℕ) (started : 
       all_more t m [] cs u
       (record {
         sound = ap (λ (v : Survey). v.ending) v;
-        own = ap (λ (v : Survey). mission_of v.records) v ∙ ap mission.Number (header-mission m);
+        own = ap (λ (v : Survey). mission_of v.records) v ∙ ap Some (header-mission m);
         lists = ap (λ (v : Survey). with_given (λ es. map points_of_entry (curves es)) (soundly v.ending v.records)) v;
       })
       appended

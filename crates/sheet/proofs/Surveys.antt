@@ -26,20 +26,17 @@ use native.Mathlib.Nat.{not-suc-le-zero}
 use lib.ListN.{length, take, drop, length-append, length-drop, take-append-drop}
 use lib.Seq.{take_at, drop_at}
 use borrow.Author.Tests.{lt-ltb, le-ltb}
-use Rattle.refusal.specs.declared.Refusal.{Refusal}
 use Rattle.refusal.specs.declared.Refusal.TheVariants as refusal
 use Rattle.refusal.specs.declared.Fault.{Fault}
 use Rattle.refusal.specs.Answers.{refused, given, when◌then◌else◌}
 use Rattle.refusal.proofs.Answers.{by_order, no_answer, given_once, refused_once}
 use Rattle.record.specs.declared.kinds.Kind.{Kind}
-use Rattle.record.specs.declared.steps.Step.{Step}
-use Rattle.record.specs.declared.steps.Step.TheVariants as step
+use Rattle.std.specs.Prelude.{Some, None, Ok, Err}
 use Rattle.record.specs.Kinds.{row_of}
-use Rattle.record.specs.Records.{longest, may_stand, step_of}
+use Rattle.record.specs.Records.{Step, longest, may_stand, step_of}
 use Rattle.record.proofs.Shown.{Whole, whole-step, step-whole, step_may}
-use Rattle.sheet.specs.declared.walks.Ending.{Ending}
-use Rattle.sheet.specs.declared.walks.Ending.TheVariants.{Sound, Faulty}
-use Rattle.sheet.specs.Survey.{Entry, Survey, entry_at, nothing, before, found, survey_from, survey_of, survey, soundly, outcome}
+use Rattle.sheet.specs.Survey.{Ending, Entry, Survey, entry_at, nothing, before, found, survey_from, survey_of, survey, soundly, outcome}
+use Rattle.record.specs.declared.steps.Slip.{Slip}
 
 unfolds : (most : ℕ) (first : Bool) (at : ℕ) (rest : List ℕ) → survey_from (suc most) first at rest ≡ found at rest (λ size. survey_from most false (at + size) (drop size rest)) (step_of first rest)
 unfolding survey_from
@@ -57,9 +54,9 @@ same-bound (suc m) (suc n) first at rest l k = unfolds m first at rest ∙ by_st
     by_step :
         (x : Step) → step_of first rest ≡ x → ((p : ℕ) (t : List ℕ) → length t < m → length t < n → survey_from m false p t ≡ survey_from n false p t) →
         found at rest (Later m) x ≡ found at rest (Later n) x
-    by_step step.Ends e f = refl
-    by_step (step.Fault r offset) e f = refl
-    by_step (step.Record kind) e f =
+    by_step (Ok None) e f = refl
+    by_step (Err slip) e f = refl
+    by_step (Ok (Some kind)) e f =
         let w = step-whole first rest kind e in
         let size = (row_of kind).size in
         let less : length (drop size rest) < length rest = omega (arith, length-drop size rest, w.1, w.2) in
@@ -69,15 +66,15 @@ unfoldable pub reads : Bool → ℕ → List ℕ → Survey
 reads first at rest = survey_from (suc (length rest)) first at rest
 
 module _ (first : Bool) (at : ℕ) (rest : List ℕ) where
-  pub reads_ends : step_of first rest ≡ step.Ends → reads first at rest ≡ nothing at Sound
+  pub reads_ends : step_of first rest ≡ Ok None → reads first at rest ≡ nothing at (Ok tt)
   unfolding reads
   reads_ends e = unfolds (length rest) first at rest ∙ rw e
 
-  pub reads_fault : {r : Refusal} {offset : ℕ} → step_of first rest ≡ step.Fault r offset → reads first at rest ≡ nothing at (Faulty (record { refusal = r; place = at + offset }))
+  pub reads_fault : {slip : Slip} → step_of first rest ≡ Err slip → reads first at rest ≡ nothing at (Err (record { refusal = slip.refusal; place = at + slip.offset }))
   unfolding reads
   reads_fault e = unfolds (length rest) first at rest ∙ rw e
 
-  pub reads_record : (k : Kind) → step_of first rest ≡ step.Record k → reads first at rest ≡ before (entry_at at rest k) (reads false (at + (row_of k).size) (drop (row_of k).size rest))
+  pub reads_record : (k : Kind) → step_of first rest ≡ Ok (Some k) → reads first at rest ≡ before (entry_at at rest k) (reads false (at + (row_of k).size) (drop (row_of k).size rest))
   unfolding reads
   reads_record k e =
       let w = step-whole first rest k e in
@@ -87,18 +84,18 @@ module _ (first : Bool) (at : ℕ) (rest : List ℕ) where
       ∙ rw e (ap (before (entry_at at rest k)) (same-bound (length rest) (suc (length (drop size rest))) false (at + size) (drop size rest) (omega arith) (omega arith)))
 
 -- where no record stands, none is found
-pub reads_stops : (first : Bool) (at : ℕ) (rest : List ℕ) → ((k : Kind) → step_of first rest ≡ step.Record k → ⊥) → ((reads first at rest).records ≡ []) × ((reads first at rest).end ≡ at)
+pub reads_stops : (first : Bool) (at : ℕ) (rest : List ℕ) → ((k : Kind) → step_of first rest ≡ Ok (Some k) → ⊥) → ((reads first at rest).records ≡ []) × ((reads first at rest).end ≡ at)
 reads_stops first at rest n = by (step_of first rest) refl
   where
     none : {how : Ending} → reads first at rest ≡ nothing at how → ((reads first at rest).records ≡ []) × ((reads first at rest).end ≡ at)
     none e = (ap (λ (v : Survey). v.records) e, ap (λ (v : Survey). v.end) e)
 
     by : (x : Step) → step_of first rest ≡ x → ((reads first at rest).records ≡ []) × ((reads first at rest).end ≡ at)
-    by step.Ends e = none (reads_ends first at rest e)
-    by (step.Fault r offset) e = none (reads_fault first at rest e)
-    by (step.Record k) e = absurd (n k e)
+    by (Ok None) e = none (reads_ends first at rest e)
+    by (Err slip) e = none (reads_fault first at rest e)
+    by (Ok (Some k)) e = absurd (n k e)
 
-pub survey-long : (first : Bool) (s : List ℕ) → longest < length s → survey_of first s ≡ nothing 0 (Faulty (record { refusal = refusal.TooLong; place = 0 }))
+pub survey-long : (first : Bool) (s : List ℕ) → longest < length s → survey_of first s ≡ nothing 0 (Err (record { refusal = refusal.TooLong; place = 0 }))
 unfolding survey_of when◌then◌else◌
 survey-long first s l = rw (lt-ltb _ _ l)
 
@@ -124,9 +121,9 @@ first_after first [] = first
 first_after first (e ∷ es) = false
 
 abbrev pub Ended : ℕ → Step → Ending → Type 0
-Ended at step.Ends how = how ≡ Sound
-Ended at (step.Fault r offset) how = how ≡ Faulty (record { refusal = r; place = at + offset })
-Ended at (step.Record k) how = ⊥
+Ended at (Ok None) how = how ≡ Ok tt
+Ended at (Err slip) how = how ≡ Err (record { refusal = slip.refusal; place = at + slip.offset })
+Ended at (Ok (Some k)) how = ⊥
 
 pub record Parts (first : Bool) (at : ℕ) (rest : List ℕ) (v : Survey) : Type 0 where
   pub tail : List ℕ
@@ -151,9 +148,9 @@ parts_of (suc most) first at rest l = subst (Parts first at rest) (sym (unfolds 
     none how e = record { tail = rest; parts = refl; listed = tt; end_is = omega arith; last = e }
 
     by_step : (x : Step) → step_of first rest ≡ x → ((p : ℕ) (t : List ℕ) → length t < most → Parts false p t (survey_from most false p t)) → Parts first at rest (found at rest Later x)
-    by_step step.Ends q f = none Sound (rw q refl)
-    by_step (step.Fault r offset) q f = none (Faulty (record { refusal = r; place = at + offset })) (rw q refl)
-    by_step (step.Record k) q f =
+    by_step (Ok None) q f = none (Ok tt) (rw q refl)
+    by_step (Err slip) q f = none (Err (record { refusal = slip.refusal; place = at + slip.offset })) (rw q refl)
+    by_step (Ok (Some k)) q f =
         let w = step-whole first rest k q in
         let size = (row_of k).size in
         let long = w.0.long in
@@ -186,39 +183,39 @@ reads-flat first at (x ∷ xs) tail w =
     ∙ ap (λ (b : Bool). behind (x ∷ xs) (reads b (at + length x.bytes + length (flat xs)) tail)) (after_false xs)
     ∙ ap (λ (n : ℕ). behind (x ∷ xs) (reads false n tail)) (omega (arith, length-append x.bytes (flat xs)))
 
-pub survey_of_lem : (s : List ℕ) (es : List Entry) (tail : List ℕ) → length s ≤ longest → s ≡ flat es ++ tail → Listed true 0 es → step_of (first_after true es) tail ≡ step.Ends
-    → survey s ≡ record { records = es; end = length (flat es); ending = Sound }
+pub survey_of_lem : (s : List ℕ) (es : List Entry) (tail : List ℕ) → length s ≤ longest → s ≡ flat es ++ tail → Listed true 0 es → step_of (first_after true es) tail ≡ Ok None
+    → survey s ≡ record { records = es; end = length (flat es); ending = Ok tt }
 survey_of_lem s es tail l p w e =
     let end : 0 + length (flat es) ≡ length (flat es) = omega arith in
     survey_short true s l
     ∙ ap (reads true 0) p
     ∙ reads-flat true 0 es tail w
     ∙ ap (behind es) (reads_ends (first_after true es) (0 + length (flat es)) tail e)
-    ∙ (λ i. record { records = append-nil es i; end = end i; ending = Sound })
+    ∙ (λ i. record { records = append-nil es i; end = end i; ending = Ok tt })
 
 -- ---- what an outcome says
 
-sound_as : (how : Ending) (es : List Entry) {rs : List Entry} → soundly how es ≡ given rs → (how ≡ Sound) × (es ≡ rs)
-sound_as Sound es e = (refl, given_once e)
-sound_as (Faulty f) es e = no_answer (sym e)
+sound_as : (how : Ending) (es : List Entry) {rs : List Entry} → soundly how es ≡ given rs → (how ≡ Ok tt) × (es ≡ rs)
+sound_as (Ok done) es e = (refl, given_once e)
+sound_as (Err f) es e = no_answer (sym e)
 
-faulty_as : (how : Ending) (es : List Entry) {f : Fault} → soundly how es ≡ refused f → how ≡ Faulty f
-faulty_as Sound es e = no_answer e
-faulty_as (Faulty f) es e = ap Faulty (refused_once {A = List Entry} e)
+faulty_as : (how : Ending) (es : List Entry) {f : Fault} → soundly how es ≡ refused f → how ≡ Err f
+faulty_as (Ok done) es e = no_answer e
+faulty_as (Err f) es e = ap Err (refused_once {A = List Entry} e)
 
-pub sound_of : (s : List ℕ) {es : List Entry} → outcome s ≡ given es → ((survey s).ending ≡ Sound) × ((survey s).records ≡ es)
+pub sound_of : (s : List ℕ) {es : List Entry} → outcome s ≡ given es → ((survey s).ending ≡ Ok tt) × ((survey s).records ≡ es)
 sound_of s = sound_as (survey s).ending (survey s).records
 
-pub faulty_of : (s : List ℕ) {f : Fault} → outcome s ≡ refused f → (survey s).ending ≡ Faulty f
+pub faulty_of : (s : List ℕ) {f : Fault} → outcome s ≡ refused f → (survey s).ending ≡ Err f
 faulty_of s = faulty_as (survey s).ending (survey s).records
 
-pub faulty_once : {f g : Fault} → Faulty f ≡ Faulty g → f ≡ g
+pub faulty_once : {f g : Fault} → ◌≡◌ {A = Ending} (Err f) (Err g) → f ≡ g
 faulty_once e = cc
 
-pub short_of : (s : List ℕ) → (survey s).ending ≡ Sound → length s ≤ longest
+pub short_of : (s : List ℕ) → (survey s).ending ≡ Ok tt → length s ≤ longest
 short_of s e =
     by_order (length s) longest (λ l. l) (λ l.
-    let q : Faulty (record { refusal = refusal.TooLong; place = 0 }) ≡ Sound = sym (ap (λ (v : Survey). v.ending) (survey-long true s l)) ∙ e in
+    let q : Err (record { refusal = refusal.TooLong; place = 0 }) ≡ Ok tt = sym (ap (λ (v : Survey). v.ending) (survey-long true s l)) ∙ e in
     let z : ◌≡◌ {A = ℕ} 0 1 = cc in
     absurd (omega arith))
 
@@ -233,7 +230,7 @@ parts_tail first s l p =
     let v = survey_of first s in
     sym (ap (drop v.end) p.parts ∙ drop_at (flat v.records) p.tail v.end (omega (arith, p.end_is)))
 
-pub no_record_behind : (first : Bool) (s : List ℕ) → length s ≤ longest → (k : Kind) → step_of (first_after first (survey_of first s).records) (drop (survey_of first s).end s) ≡ step.Record k → ⊥
+pub no_record_behind : (first : Bool) (s : List ℕ) → length s ≤ longest → (k : Kind) → step_of (first_after first (survey_of first s).records) (drop (survey_of first s).end s) ≡ Ok (Some k) → ⊥
 no_record_behind first s l k e =
     let p = sheet_parts first s l in
     let v = survey_of first s in

@@ -1,6 +1,7 @@
 -- What a walk over a sheet finds: the survey. Every call on a sheet is said by it.
 --   Entry            a record of the sheet: its place, its kind and its bytes
---   Survey           the records, where they end, and how that is: soundly, or with the first fault in sheet order
+--   Ending           how records end: soundly, or with the first fault in sheet order
+--   Survey           the records, where they end, and how that is
 --   entry_at          the record of a kind at a place, of which `rest` is left
 --   nothing, before  no record, and how it ends; a record before what is found behind it
 --   found            what a step at a place finds
@@ -14,24 +15,22 @@
 --   mission_of        the mission of some records: their header's number
 --   is_other          a mission is another than the one that is expected
 --   chosen           curve `number` of a sheet of the expected mission
-use Rattle.std.specs.Prelude.{Bool, true, false, not, List, [], ◌∷◌, ℕ, zero, suc, ◌+◌, ltb, eqb, length, take, drop}
+use Rattle.std.specs.Prelude.{Bool, true, false, not, List, [], ◌∷◌, ℕ, zero, suc, ◌+◌, ltb, eqb, length, take, drop, Option, Some, None, Result, Ok, Err}
+use Rattle.refusal.specs.declared.Fault.{Fault}
 use Rattle.refusal.specs.declared.Refusal.TheVariants as refusal
 use Rattle.refusal.specs.Answers.{Answer, refused, given, refuse, then_given, when◌then◌else◌}
 use Rattle.record.specs.declared.kinds.Kind.{Kind}
-use Rattle.record.specs.declared.steps.Step.{Step}
-use Rattle.record.specs.declared.steps.Step.TheVariants as step
 use Rattle.record.specs.Numbers.{mission_in}
 use Rattle.record.specs.Kinds.{row_of}
-use Rattle.record.specs.Records.{longest, step_of}
-use Rattle.sheet.specs.declared.Mission.{Mission}
-use Rattle.sheet.specs.declared.Mission.TheVariants as mission
-use Rattle.sheet.specs.declared.walks.Ending.{Ending}
-use Rattle.sheet.specs.declared.walks.Ending.TheVariants.{Sound, Faulty}
+use Rattle.record.specs.Records.{longest, Step, step_of}
 
 pub record Entry : Type 0 where
   pub place : ℕ
   pub kind : Kind
   pub bytes : List ℕ
+
+abbrev pub Ending : Type 0
+Ending = Result (Unit {0}) Fault
 
 pub record Survey : Type 0 where
   pub records : List Entry
@@ -48,26 +47,26 @@ abbrev pub before : Entry → Survey → Survey
 before e later = record { records = e ∷ later.records; end = later.end; ending = later.ending }
 
 abbrev pub found : ℕ → List ℕ → (ℕ → Survey) → Step → Survey
-found at rest later step.Ends = nothing at Sound
-found at rest later (step.Fault r offset) = nothing at (Faulty (record { refusal = r; place = at + offset }))
-found at rest later (step.Record k) = before (entry_at at rest k) (later (row_of k).size)
+found at rest later (Ok None) = nothing at (Ok tt)
+found at rest later (Err slip) = nothing at (Err (record { refusal = slip.refusal; place = at + slip.offset }))
+found at rest later (Ok (Some k)) = before (entry_at at rest k) (later (row_of k).size)
 
 -- the first number bounds how many records are looked at
 unfoldable pub survey_from : ℕ → Bool → ℕ → List ℕ → Survey
-survey_from zero first at rest = nothing at Sound
+survey_from zero first at rest = nothing at (Ok tt)
 survey_from (suc most) first at rest = found at rest (λ size. survey_from most false (at + size) (drop size rest)) (step_of first rest)
 
 -- there are no more records than bytes
 unfoldable pub survey_of : Bool → List ℕ → Survey
 survey_of first s =
-    when ltb longest (length s) then nothing 0 (Faulty (record { refusal = refusal.TooLong; place = 0 })) else survey_from (suc (length s)) first 0 s
+    when ltb longest (length s) then nothing 0 (Err (record { refusal = refusal.TooLong; place = 0 })) else survey_from (suc (length s)) first 0 s
 
 abbrev pub survey : List ℕ → Survey
 survey s = survey_of true s
 
 abbrev pub soundly : {A : Type 0} → Ending → A → Answer A
-soundly Sound a = given a
-soundly (Faulty f) a = refused f
+soundly (Ok done) a = given a
+soundly (Err f) a = refused f
 
 abbrev pub outcome : List ℕ → Answer (List Entry)
 outcome s = soundly (survey s).ending (survey s).records
@@ -86,14 +85,14 @@ abbrev pub numbered : ℕ → List ℕ → Answer Entry
 numbered number s = then_given (λ es. nth number (curves es)) (outcome s)
 
 -- the first record of a sheet is its header
-abbrev pub mission_of : List Entry → Mission
-mission_of [] = mission.None
-mission_of (e ∷ es) = mission.Number (mission_in e.bytes)
+abbrev pub mission_of : List Entry → Option ℕ
+mission_of [] = None
+mission_of (e ∷ es) = Some (mission_in e.bytes)
 
 -- a sheet without a mission is no other mission
-abbrev pub is_other : ℕ → Mission → Bool
-is_other expected mission.None = false
-is_other expected (mission.Number m) = not (eqb m expected)
+abbrev pub is_other : ℕ → Option ℕ → Bool
+is_other expected None = false
+is_other expected (Some m) = not (eqb m expected)
 
 abbrev pub chosen : ℕ → ℕ → List ℕ → Answer Entry
 chosen expected number s =

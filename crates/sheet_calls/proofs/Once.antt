@@ -4,10 +4,9 @@ use mathlib.Core.Path.{◌≡◌, sym, ◌∙◌}
 use mathlib.Core.List.{List}
 use Prim.Native.Nat.{ℕ}
 use lib.IntN.{ℤ}
-use Rattle.refusal.specs.Answers.{with_given}
+use Rattle.refusal.specs.Answers.{with_given, answer_of}
 use Rattle.sheet.specs.Survey.{chosen}
 use Rattle.sheet.proofs.Once.{start_once as starts_once, erase_once as erases_once, append_once as appends_once}
-use Rattle.text.specs.Promise.{answer_of_text}
 use Rattle.report_text.proofs.Once.{reported_once}
 use Rattle.hand.proofs.Handing.{on_curve_lem, hands_once, counted_once}
 use Rattle.sheet_calls.specs.Promise.{numbers_of_entry, place_numbers, count_of_change, CheckCall, ReadCall, FindCall, StartForCall, EraseCall, AppendCall, ReportCall}
@@ -32,4 +31,4 @@ module _ (s : List ℕ) {r q : ℤ} where
   append_once p t u = on_curve_lem (λ i j. (i.0 ∙ sym j.0, i.1 ∙ sym j.1)) (λ c. counted_once count_of_change (appends_once s c t u))
 
   pub report_once : (before x y : List ℕ) → ReportCall s before x r → ReportCall s before y q → (r ≡ q) × (x ≡ y)
-  report_once before x y = counted_once answer_of_text (reported_once s before x y)
+  report_once before x y = counted_once answer_of (reported_once s before x y)

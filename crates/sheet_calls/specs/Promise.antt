@@ -2,15 +2,13 @@
 --   numbers_of_entry, place_numbers   what read and find hand over of a record
 --   count_of_change                  a sheet that was written gives nothing to count
 --   CheckCall, ReadCall, FindCall, StartForCall, EraseCall, AppendCall, ReportCall   the calls
-use Rattle.std.specs.Prelude.{◌≡◌, List, map, ℕ, ℤ, pos}
+use Rattle.std.specs.Prelude.{◌≡◌, List, [], ◌∷◌, ℕ, ℤ, pos, length, Result}
+use Rattle.refusal.specs.declared.Fault.{Fault}
 use Rattle.refusal.specs.declared.Refusal.TheVariants as refusal
-use Rattle.refusal.specs.Answers.{Answer, refused, given, refuse, with_given}
+use Rattle.refusal.specs.Answers.{Answer, refuse, with_given, answer_of, answer_at}
 use Rattle.record.specs.Kinds.{numbers_of}
-use Rattle.sheet.specs.declared.Change.{Change}
-use Rattle.sheet.specs.declared.Change.TheVariants as change
 use Rattle.sheet.specs.Survey.{Entry, outcome, chosen}
-use Rattle.sheet.specs.Promise.{count_of, points_of_entry, place_of, StartsFor, Erases, Appends}
-use Rattle.text.specs.Promise.{answer_of_text}
+use Rattle.sheet.specs.Promise.{count_of, points_of_entry, StartsFor, Erases, Appends}
 use Rattle.report_text.specs.Promise.{Reported}
 use Rattle.hand.specs.Promise.{coded, Hands, Counted, OnCurve}
 
@@ -18,11 +16,10 @@ abbrev pub numbers_of_entry : Entry → List ℤ
 numbers_of_entry e = numbers_of (points_of_entry e)
 
 abbrev pub place_numbers : Entry → List ℤ
-place_numbers e = map pos (place_of e)
+place_numbers e = pos e.place ∷ pos (length e.bytes) ∷ []
 
-abbrev pub count_of_change : Change → Answer ℕ
-count_of_change change.Done = given 0
-count_of_change (change.Refused f) = refused f
+abbrev pub count_of_change : Result (Unit {0}) Fault → Answer ℕ
+count_of_change r = with_given (λ _. 0) (answer_at r)
 
 abbrev pub CheckCall : List ℕ → ℤ → Type 0
 CheckCall s r = r ≡ coded (with_given count_of (outcome s))
@@ -44,4 +41,4 @@ abbrev pub AppendCall : List ℕ → List ℤ → List ℕ → ℤ → Type 0
 AppendCall s p t r = OnCurve p ((r ≡ coded (refuse refusal.Length 0)) × (t ≡ s)) (λ c. Counted (Appends s c t) count_of_change r)
 
 abbrev pub ReportCall : List ℕ → List ℕ → List ℕ → ℤ → Type 0
-ReportCall s before after = Counted (Reported s before after) answer_of_text
+ReportCall s before after = Counted (Reported s before after) answer_of

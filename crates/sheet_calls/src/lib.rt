@@ -1,22 +1,22 @@
-// The calls on sheets for C, over numbers: `yard` exports them, and include/yard.h has a comment for each.
+// The calls on sheets for C, over numbers: `yard` exports them, and include/yard.h has a comment for each. Each call turns its own answer into a
+// code, since what it counts is its own: curves, numbers, bytes, or nothing. `as`, since From doesn't convert between usize and C's 64 bits.
 #![tactic(auto)]
 
 ghost use Rattle.std.specs.Prelude.{◌≡◌};
 ghost use Rattle.hand.specs.Promise.{coded as code_of};
 ghost use Rattle.sheet_calls.specs.Promise.{count_of_change, CheckCall, ReadCall, FindCall, StartForCall, EraseCall, AppendCall, ReportCall};
 
-use hand::{Given, coded, curve_in, faulted, hand, hand_curve};
-use refusal::{Refusal, nowhere};
+use hand::{coded, curve_in, faulted, hand, hand_curve};
+use refusal::{Fault, Refusal};
 use report_text::write_report;
-use sheet::{Change, Checked, Location, Reading, locate};
-use text::TextAnswer;
+use sheet::locate;
 
 pub fn check(s: &[u8]) -> i64
     ensures { CheckCall s.now result }
 {
     match sheet::check(s) {
-        Checked::Sheet { mission: _, curves } => curves as i64,
-        Checked::Refused(f) => coded(f),
+        Ok(checked) => checked.curves as i64,
+        Err(f) => coded(f),
     }
 }
 
@@ -24,8 +24,8 @@ pub fn read(s: &[u8], mission: u16, number: u64, out: &mut [i64]) -> i64
     ensures { ReadCall s.now mission number out.old out.new result }
 {
     match sheet::read(s, mission, number as usize) {
-        Reading::Points(curve) => hand_curve(out, curve),
-        Reading::Refused(f) => faulted(out, f),
+        Ok(curve) => hand_curve(out, curve),
+        Err(f) => faulted(out, f),
     }
 }
 
@@ -33,21 +33,18 @@ pub fn find(s: &[u8], mission: u16, number: u64, out: &mut [i64]) -> i64
     ensures { FindCall s.now mission number out.old out.new result }
 {
     match locate(s, mission, number as usize) {
-        Location::At { place, length } => {
-            let xs = [place as i64, length as i64];
-            hand(out, &xs)
-        }
-        Location::Refused(f) => faulted(out, f),
+        Ok(at) => hand(out, &[at.place as i64, at.length as i64]),
+        Err(f) => faulted(out, f),
     }
 }
 
 // What a call that writes a sheet returns: there is nothing to count.
-fn changed(change: Change) -> i64
+fn changed(change: Result<(), Fault>) -> i64
     ensures { result ≡ code_of (count_of_change change) }
 {
     match change {
-        Change::Done => 0,
-        Change::Refused(f) => coded(f),
+        Ok(()) => 0,
+        Err(f) => coded(f),
     }
 }
 
@@ -63,11 +60,12 @@ pub fn erase(s: &mut [u8]) -> i64
     changed(sheet::erase(s))
 }
 
+// The count of numbers is tested by hand, as in `offset` of curve_calls: the library changes the sheet itself, and has no answer to hand over.
 pub fn append(s: &mut [u8], p: &[i64]) -> i64
     ensures { AppendCall s.old p.now s.new result }
 {
-    let Given::Curve(curve) = curve_in(p) else {
-        return coded(nowhere(Refusal::Length));
+    let Some(curve) = curve_in(p) else {
+        return coded(Refusal::Length.into());
     };
     changed(sheet::append(s, curve))
 }
@@ -76,7 +74,7 @@ pub fn report(s: &[u8], text: &mut [u8]) -> i64
     ensures { ReportCall s.now text.old text.new result }
 {
     match write_report(s, text) {
-        TextAnswer::Written(n) => n as i64,
-        TextAnswer::Refused(r) => coded(nowhere(r)),
+        Ok(n) => n as i64,
+        Err(r) => coded(r.into()),
     }
 }

@@ -7,15 +7,13 @@ use Prim.Native.Nat.{ℕ, ◌+◌, ◌≤◌}
 use native.Mathlib.Omega.{arith}
 use lib.ListN.{length}
 use borrow.Author.Tests.{le-ltb}
-use Rattle.refusal.specs.declared.Refusal.{Refusal}
 use Rattle.refusal.specs.declared.Fault.{Fault}
 use Rattle.refusal.specs.Answers.{when◌then◌else◌}
 use Rattle.refusal.proofs.Answers.{by_test}
-use Rattle.record.specs.declared.steps.Step.{Step}
-use Rattle.record.specs.declared.steps.Step.TheVariants as step
-use Rattle.record.specs.Records.{longest, erased_end}
-use Rattle.sheet.specs.declared.walks.Ending.TheVariants.{Faulty}
+use Rattle.std.specs.Prelude.{Err}
+use Rattle.record.specs.Records.{Step, longest, erased_end}
 use Rattle.sheet.specs.Survey.{survey_of}
+use Rattle.record.specs.declared.steps.Slip.{Slip}
 use Rattle.sheet.proofs.Faults.{fault_inside}
 use Rattle.states.specs.declared.State.{State}
 use Rattle.states.specs.Steps.{first_in, behind_in, held_in, front_in, answer_with, answer_in, Standing}
@@ -29,12 +27,12 @@ module _ {st : State} (h : Standing st) where
   unfolding answer_in when◌then◌else◌
   answer_by_lem = rw (le-ltb longest st.count h.short)
 
-  pub fault_within : (f : Fault) → (survey_of (first_in st) (front_in st)).ending ≡ Faulty f → st.place + f.place ≤ longest
+  pub fault_within : (f : Fault) → (survey_of (first_in st) (front_in st)).ending ≡ Err f → st.place + f.place ≤ longest
   fault_within f e = omega (arith, fault_inside (first_in st) (front_in st) f (omega (arith, front_long)) e, front_long, h.inside, h.short)
 
-  pub leftover_within : (r : Refusal) (offset : ℕ) → erased_end st.erased (behind_in st) ≡ step.Fault r offset → st.place + offset ≤ longest
+  pub leftover_within : (slip : Slip) → erased_end st.erased (behind_in st) ≡ Err slip → st.place + slip.offset ≤ longest
   unfolding erased_end
-  leftover_within r offset =
-      by_test (λ (x : Step). x ≡ step.Fault r offset → st.place + offset ≤ longest) _
-      (λ _ e. let q : st.erased ≡ offset = cc in omega (arith, h.front.erased_inside, h.inside, h.short))
+  leftover_within slip =
+      by_test (λ (x : Step). x ≡ Err slip → st.place + slip.offset ≤ longest) _
+      (λ _ e. let q : st.erased ≡ slip.offset = cc in omega (arith, h.front.erased_inside, h.inside, h.short))
       (λ _ e. let z : ◌≡◌ {A = ℕ} 0 1 = cc in absurd (omega arith))

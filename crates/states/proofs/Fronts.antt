@@ -24,14 +24,12 @@ use Rattle.refusal.specs.Answers.{when◌then◌else◌}
 use Rattle.refusal.proofs.Answers.{by_order}
 use Rattle.record.specs.Numbers.{AllBytes}
 use Rattle.record.specs.Kinds.{row_of, longest_record}
-use Rattle.record.specs.Records.{longest, step_of}
+use Rattle.record.specs.Records.{Step, longest, step_of}
 use Rattle.record.specs.declared.kinds.Kind.{Kind}
-use Rattle.record.specs.declared.steps.Step.{Step}
-use Rattle.record.specs.declared.steps.Step.TheVariants as step
+use Rattle.std.specs.Prelude.{Some, None, Ok, Err}
 use Rattle.record.proofs.Table.{row-known}
 use Rattle.record.proofs.Words.{all_take}
 use Rattle.record.proofs.Front.{record_within}
-use Rattle.sheet.specs.declared.Mission.TheVariants as mission
 use Rattle.sheet.specs.Survey.{Entry, Survey, entry_at, before, survey_of, survey, mission_of}
 use Rattle.sheet.specs.Promise.{count_of}
 use Rattle.sheet.proofs.Surveys.{reads, reads_ends, reads_fault, reads_record, reads_stops, survey_short, flat, Listed, first_after, sheet_parts}
@@ -96,11 +94,11 @@ first-listed (e ∷ es) {end} w q = sym (ne_eqb end 0 (λ z. omega (arith, lengt
 pub first_of : (s : List ℕ) → length s ≤ longest → first_after true (survey s).records ≡ eqb (survey s).end 0
 first_of s l = let p = sheet_parts true s l in first-listed (survey s).records p.listed (p.end_is ∙ omega arith)
 
-pub mission_of_lem : (s : List ℕ) → length s ≤ longest → (when eqb (survey s).end 0 then mission.None else mission.Number (mission_found s)) ≡ mission_of (survey s).records
+pub mission_of_lem : (s : List ℕ) → length s ≤ longest → (when eqb (survey s).end 0 then None else Some (mission_found s)) ≡ mission_of (survey s).records
 unfolding when◌then◌else◌
-mission_of_lem s l = ap (λ (b : Bool). when b then mission.None else mission.Number (mission_found s)) (sym (first_of s l)) ∙ by (survey s).records
+mission_of_lem s l = ap (λ (b : Bool). when b then None else Some (mission_found s)) (sym (first_of s l)) ∙ by (survey s).records
   where
-    by : (es : List Entry) → (when first_after true es then mission.None else mission.Number (mission_number (mission_of es))) ≡ mission_of es
+    by : (es : List Entry) → (when first_after true es then None else Some (mission_number (mission_of es))) ≡ mission_of es
     by [] = refl
     by (e ∷ es) = refl
 
@@ -126,7 +124,7 @@ module _ (st : State) (seven : length st.words ≡ 7) where
 
 -- ---- whether a record stands at the start
 
-pub starts_some : (first : Bool) (s : List ℕ) (k : Kind) → length s ≤ longest → step_of first s ≡ step.Record k → (row_of k).size ≤ (survey_of first s).end
+pub starts_some : (first : Bool) (s : List ℕ) (k : Kind) → length s ≤ longest → step_of first s ≡ Ok (Some k) → (row_of k).size ≤ (survey_of first s).end
 starts_some first s k l e =
     let size = (row_of k).size in
     let rest = drop size s in
@@ -135,16 +133,16 @@ starts_some first s k l e =
     in
     omega (arith, ap (λ (v : Survey). v.end) found)
 
-pub starts_none : (first : Bool) (s : List ℕ) → length s ≤ longest → ((k : Kind) → step_of first s ≡ step.Record k → ⊥) → (survey_of first s).end ≡ 0
+pub starts_none : (first : Bool) (s : List ℕ) → length s ≤ longest → ((k : Kind) → step_of first s ≡ Ok (Some k) → ⊥) → (survey_of first s).end ≡ 0
 starts_none first s l none = ap (λ (v : Survey). v.end) (survey_short first s l) ∙ (reads_stops first 0 s none).1
 
-pub some_starts : (first : Bool) (s : List ℕ) → length s ≤ longest → ((survey_of first s).end ≡ 0 → ⊥) → (k : Kind) × (step_of first s ≡ step.Record k)
+pub some_starts : (first : Bool) (s : List ℕ) → length s ≤ longest → ((survey_of first s).end ≡ 0 → ⊥) → (k : Kind) × (step_of first s ≡ Ok (Some k))
 some_starts first s l some = by (step_of first s) refl
   where
-    by : (x : Step) → step_of first s ≡ x → (k : Kind) × (step_of first s ≡ step.Record k)
-    by step.Ends e = absurd (some (ap (λ (v : Survey). v.end) (survey_short first s l ∙ reads_ends first 0 s e)))
-    by (step.Fault r offset) e = absurd (some (ap (λ (v : Survey). v.end) (survey_short first s l ∙ reads_fault first 0 s e)))
-    by (step.Record k) e = (k, e)
+    by : (x : Step) → step_of first s ≡ x → (k : Kind) × (step_of first s ≡ Ok (Some k))
+    by (Ok None) e = absurd (some (ap (λ (v : Survey). v.end) (survey_short first s l ∙ reads_ends first 0 s e)))
+    by (Err slip) e = absurd (some (ap (λ (v : Survey). v.end) (survey_short first s l ∙ reads_fault first 0 s e)))
+    by (Ok (Some k)) e = (k, e)
 
 pub starts_later : (first : Bool) (front more : List ℕ) → length (front ++ more) ≤ longest → (survey_of first front).end ≡ 0 → ((survey_of first (front ++ more)).end ≡ 0 → ⊥)
     → length front < (survey_of first (front ++ more)).end

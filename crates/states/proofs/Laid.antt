@@ -19,7 +19,7 @@ use Rattle.curve.specs.declared.Curve.{Curve}
 use Rattle.curve.specs.declared.Curve.TheVariants as form
 use Rattle.record.specs.declared.kinds.Kind.{Kind}
 use Rattle.record.specs.declared.kinds.Kind.TheVariants as kinds
-use Rattle.record.specs.declared.steps.Step.TheVariants as step
+use Rattle.std.specs.Prelude.{Some, Ok}
 use Rattle.record.specs.Numbers.{AllBytes}
 use Rattle.record.specs.Kinds.{row_of, kind_of, header_of, record_of, longest_record}
 use Rattle.record.specs.Records.{erased, erased_bytes, step_of}
@@ -196,9 +196,9 @@ module _ (st : State) (p : Standing st) where
       (λ e. omega (arith, eqb-true (erased_bytes front) (length front) e, erased_then more zeros, front_long, p.front.erased_is, p.front.erased_inside))
       (λ e. let n = eqb-false (erased_bytes front) (length front) e in omega (arith, erased-within front, front_long, p.front.erased_is))
 
-  rest_stops : (k : Kind) → step_of (first_in st) rest ≡ step.Record k → ⊥
+  rest_stops : (k : Kind) → step_of (first_in st) rest ≡ Ok (Some k) → ⊥
   rest_stops k e =
-      let here : step_of (first_in st) front ≡ step.Record k = ap (step_of (first_in st)) (sym rest-front) ∙ front_by_record (first_in st) rest k e in
+      let here : step_of (first_in st) front ≡ Ok (Some k) = ap (step_of (first_in st)) (sym rest-front) ∙ front_by_record (first_in st) rest k e in
       omega (arith, p.front.no_record, starts_some (first_in st) front k (omega (arith, front_long)) here, (row-known k).long)
 
   rest-bytes : AllBytes rest

@@ -15,7 +15,7 @@ use borrow.Author.Tests.{lt-ltb, le-ltb, eqb-true, eqb-false}
 use Rattle.refusal.specs.Answers.{when◌then◌else◌}
 use Rattle.refusal.proofs.Answers.{by_test, by_order}
 use Rattle.record.specs.declared.kinds.Kind.{Kind}
-use Rattle.record.specs.declared.steps.Step.TheVariants as step
+use Rattle.std.specs.Prelude.{Some, Ok}
 use Rattle.record.specs.Numbers.{AllBytes}
 use Rattle.record.specs.Kinds.{row_of, longest_record}
 use Rattle.record.specs.Records.{longest, erased_bytes, step_of}
@@ -108,7 +108,7 @@ module _ (s part : List ℕ) (bytes : AllBytes s) (fits : length s + length part
       ∙ (λ i. keeping false (length-append s part i) (own i) (counts i) (ends i) (left i))
 
   -- where no record is completed
-  grown-is : ((k : Kind) → step_of first (rest ++ part) ≡ step.Record k → ⊥) → grown st part ≡ state_of (s ++ part) false
+  grown-is : ((k : Kind) → step_of first (rest ++ part) ≡ Ok (Some k) → ⊥) → grown st part ≡ state_of (s ++ part) false
   unfolding grown
   grown-is none =
       let stops = reads_stops first place (rest ++ part) none in
@@ -158,7 +158,7 @@ module _ (s part : List ℕ) (bytes : AllBytes s) (fits : length s + length part
         let held = min (length rest) longest_record in
         let there = take (longest_record - held) part in
         let both : seen ≡ front ++ there = take-over longest_record held rest part refl in
-        let behind-none : (k : Kind) → step_of first rest ≡ step.Record k → ⊥ =
+        let behind-none : (k : Kind) → step_of first rest ≡ Ok (Some k) → ⊥ =
         λ k e. no_record_behind true s short k (ap (λ (b : Bool). step_of b rest) (first_of s short) ∙ e)
         in
         let none : (survey_of first front).end ≡ 0 = starts_none first front (omega (arith, length-take longest_record rest)) (λ k e. behind-none k (record_by_front first rest k e)) in
@@ -247,7 +247,7 @@ module _ (s part : List ℕ) (bytes : AllBytes s) (fits : length s + length part
       (λ e. grown-is (λ k q. none (eqb-true (survey_of first seen).end 0 e) k q))
       (λ e. after_is (eqb-false (survey_of first seen).end 0 e))
     where
-      none : (survey_of first seen).end ≡ 0 → (k : Kind) → step_of first (rest ++ part) ≡ step.Record k → ⊥
+      none : (survey_of first seen).end ≡ 0 → (k : Kind) → step_of first (rest ++ part) ≡ Ok (Some k) → ⊥
       none z k q = omega (arith, z, starts_some first seen k seen_short (front_by_record first (rest ++ part) k q), (row-known k).long)
 
   going_is : fed_by st part ≡ state_of (s ++ part) false

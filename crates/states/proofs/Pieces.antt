@@ -1,17 +1,16 @@
 -- Lists that are written over, as the loops leave them.
---   filled          as much of a part as there is room for
---   unpacked-more, unpacked-all     words written one behind another, after i turns and after all
+--   unpacked-more                   words written one behind another, after i turns
 --   packed-zeros, mission-padded    zeros behind the bytes change no word, and no mission's number
 --   padded-all, unpacked-padded, joined-padded   bytes with zeros behind them: how many they are; the bytes of packed words, and of a part over
 --                   them
---   padded-long, packed-padded      bytes, as far as the longest record goes, over zeros: how many there are, and their words
+--   packed-padded                   the words of bytes, as far as the longest record goes, over zeros
 use mathlib.Core.Path.{◌≡◌, refl, sym, ap, ◌∙◌}
-use mathlib.Core.List.{List, [], ◌∷◌, ◌++◌, append_assoc, append-nil}
-use Prim.Native.Nat.{ℕ, zero, suc, ◌+◌, ◌-◌, ◌*◌, ◌≤◌, ◌<◌, min}
+use mathlib.Core.List.{List, [], ◌∷◌, ◌++◌, append_assoc}
+use Prim.Native.Nat.{ℕ, zero, suc, ◌+◌, ◌-◌, ◌*◌, ◌≤◌, ◌<◌}
 use native.Mathlib.Omega.{arith}
 use native.Mathlib.Numerals.{add-one}
-use lib.ListN.{length, get_or, take, drop, replicate, drop_of_length-le, length-replicate, replicate-append-replicate, length-append, length-take, length-drop, get_or-append, get_or-eq_default, get_or-replicate}
-use lib.Seq.{ext_get_or, get_or-drop, take_all, take_at, drop_at, take-suc, take-length, length-take-le, get_or-append-add}
+use lib.ListN.{length, get_or, take, drop, replicate, length-replicate, replicate-append-replicate, length-append, length-take, length-drop, get_or-append, get_or-eq_default, get_or-replicate}
+use lib.Seq.{ext_get_or, get_or-drop, take_all, take_at, drop_at, take-suc, length-take-le, get_or-append-add}
 use Rattle.refusal.proofs.Answers.{by_order}
 use Rattle.record.specs.Numbers.{AllBytes, mission_in, written}
 use Rattle.record.proofs.Pieces.{written_twice}
@@ -19,18 +18,6 @@ use Rattle.record.proofs.Words.{words_same, all_append, all_take, all_replicate}
 use Rattle.states.specs.Words.{longs, packed, unpacked}
 use Rattle.states.specs.Steps.{joined_to, padded}
 use Rattle.states.proofs.Packed.{packed-long, unpacked-long, unpacked-bytes, packed-back}
-
-pub filled : (n : ℕ) (area part : List ℕ) → n ≡ min (length area) (length part) → take n part ++ drop n area ≡ take (length area) part ++ drop (length part) area
-filled n area part e =
-    by_order (length area) (length part)
-    (λ l.
-    let m : n ≡ length area = omega arith in
-    ap (λ (k : ℕ). take k part ++ drop k area) m
-    ∙ ap (λ (x : List ℕ). take (length area) part ++ x) (drop_of_length-le area {i = length area} (omega arith) ∙ sym (drop_of_length-le area {i = length part} l)))
-    (λ l.
-    let m : n ≡ length part = omega arith in
-    ap (λ (k : ℕ). take k part ++ drop k area) m
-    ∙ ap (λ (x : List ℕ). x ++ drop (length part) area) (take_all (length part) part (omega arith) ∙ sym (take_all (length area) part (omega arith))))
 
 -- ---- words written one behind another
 
@@ -50,13 +37,6 @@ unpacked-more s ws i fits h e f =
     f ∙ ap (λ (r : List ℕ). written r (8 * i) b) e ∙ ap (λ (k : ℕ). written (written s 0 a) k b) n
     ∙ written_twice s 0 a b (omega (arith, n))
     ∙ ap (written s 0) (sym g)
-
-pub unpacked-all : (s ws : List ℕ) (i : ℕ) → length s ≡ 8 * length ws → i ≡ length ws → written s 0 (unpacked (take i ws)) ≡ unpacked ws
-unpacked-all s ws i fits e =
-    ap (λ (k : ℕ). written s 0 (unpacked (take k ws))) e
-    ∙ ap (λ (xs : List ℕ). written s 0 (unpacked xs)) (take-length ws)
-    ∙ ap (λ (r : List ℕ). unpacked ws ++ r) (drop_of_length-le s {i = 0 + length (unpacked ws)} (omega (arith, unpacked-long ws)))
-    ∙ append-nil (unpacked ws)
 
 -- ---- zeros behind
 
@@ -89,17 +69,6 @@ drop-zeros k n =
     (λ i l. get_or-drop k (replicate n 0) i 0 ∙ get_or-replicate n (k + i) 0 0 (omega (arith, long)) ∙ sym (get_or-replicate (n - k) i 0 0 (omega (arith, long))))
 
 module _ (s : List ℕ) {x : List ℕ} (e : x ≡ take 52 s ++ drop (length s) (replicate 52 0)) where
-  pub padded-long : length (x ++ replicate 4 0) ≡ 56
-  padded-long =
-      omega (
-        arith,
-        length-append x (replicate 4 0),
-        ap length e,
-        length-append (take 52 s) (drop (length s) (replicate 52 0)),
-        length-take 52 s,
-        length-drop {A = ℕ} (length s) (replicate 52 0),
-      )
-
   pub packed-padded : packed (x ++ replicate 4 0) ≡ packed (take 52 s)
   packed-padded =
       ap (λ (y : List ℕ). packed (y ++ replicate 4 0)) (e ∙ ap (λ (z : List ℕ). take 52 s ++ z) (drop-zeros (length s) 52))

@@ -23,8 +23,7 @@ use Rattle.record.specs.Records.{longest, erased_bytes, may_stand, step_of}
 use Rattle.record.proofs.Headers.{first-header, later_plain}
 use Rattle.record.proofs.Words.{all_take, all_drop, all_replicate}
 use Rattle.record.proofs.Front.{record_by_front, erased-take, erased-within}
-use Rattle.sheet.specs.declared.Mission.{Mission}
-use Rattle.sheet.specs.declared.Mission.TheVariants as mission
+use Rattle.std.specs.Prelude.{Option, Some, None}
 use Rattle.sheet.specs.Survey.{Entry, survey_of, survey, mission_of}
 use Rattle.sheet.specs.Promise.{count_of}
 use Rattle.sheet.proofs.Surveys.{flat, Listed, sheet_parts, no_record_behind, end-within}
@@ -68,9 +67,9 @@ mission_fits_lem s bytes = record {
   two_bytes = small (mission_of (survey s).records) (mission_small s (λ i. record { fits = byte_at s bytes i }));
 }
   where
-    small : (m : Mission) → MissionSmall m → mission_number m < 65536
-    small mission.None l = omega arith
-    small (mission.Number m) l = l
+    small : (m : Option ℕ) → MissionSmall m → mission_number m < 65536
+    small None l = omega arith
+    small (Some m) l = l
 
 number_small : (ended : Bool) → number ended ≤ 1
 number_small false = omega arith

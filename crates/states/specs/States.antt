@@ -5,13 +5,11 @@
 --   state_of     what is left of these bytes, ended or not
 --   IsOf        a state is that of these bytes, ended or not
 --   Reached     a state is that of some bytes
-use Rattle.std.specs.Prelude.{◌≡◌, Bool, true, false, List, [], ℕ, suc, ltb, length, take, drop}
+use Rattle.std.specs.Prelude.{◌≡◌, Bool, true, false, List, [], ℕ, suc, ltb, length, take, drop, Option, Some, None}
 use Rattle.refusal.specs.Answers.{when◌then◌else◌}
 use Rattle.record.specs.Numbers.{AllBytes}
 use Rattle.record.specs.Kinds.{longest_record}
 use Rattle.record.specs.Records.{longest, erased_bytes}
-use Rattle.sheet.specs.declared.Mission.{Mission}
-use Rattle.sheet.specs.declared.Mission.TheVariants as mission
 use Rattle.sheet.specs.Survey.{survey, mission_of}
 use Rattle.sheet.specs.Promise.{count_of}
 use Rattle.states.specs.declared.State.{State}
@@ -21,9 +19,9 @@ abbrev pub number : Bool → ℕ
 number false = 0
 number true = 1
 
-abbrev pub mission_number : Mission → ℕ
-mission_number mission.None = 0
-mission_number (mission.Number m) = m
+abbrev pub mission_number : Option ℕ → ℕ
+mission_number None = 0
+mission_number (Some m) = m
 
 -- of what stands behind the records a state has as many bytes as the longest record, eight to a word, and how many bytes FF come first
 abbrev pub keeping : Bool → ℕ → ℕ → ℕ → ℕ → List ℕ → State

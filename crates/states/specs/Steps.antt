@@ -14,23 +14,17 @@
 --   CurvesEnd, RecordsEnd  the records of so many curves may have so many bytes; with the header they may end at that place
 --   MissionFits   the mission of records that end at a place may have that number
 --   Fronted, Standing, Overfull, Possible   the numbers that a state of some bytes may have
-use Rattle.std.specs.Prelude.{◌≡◌, ◌⊎◌, Bool, false, List, [], ◌++◌, ℕ, suc, ◌+◌, ◌-◌, ◌*◌, ◌≤◌, ◌<◌, min, ltb, eqb, length, take, drop, replicate}
+use Rattle.std.specs.Prelude.{◌≡◌, ◌⊎◌, Bool, false, List, [], ◌++◌, ℕ, suc, ◌+◌, ◌-◌, ◌*◌, ◌≤◌, ◌<◌, min, ltb, eqb, length, take, drop, replicate, Option, Some, None, Result, Ok, Err}
+use Rattle.refusal.specs.declared.Fault.{Fault}
 use Rattle.refusal.specs.declared.Refusal.{Refusal}
 use Rattle.refusal.specs.declared.Refusal.TheVariants as refusal
 use Rattle.refusal.specs.Answers.{when◌then◌else◌}
 use Rattle.record.specs.declared.kinds.Kind.TheVariants as kinds
-use Rattle.record.specs.declared.steps.Step.{Step}
-use Rattle.record.specs.declared.steps.Step.TheVariants as step
 use Rattle.record.specs.Numbers.{mission_in}
 use Rattle.record.specs.Kinds.{row_of, longest_record}
-use Rattle.record.specs.Records.{longest, erased_bytes, erased_end}
-use Rattle.sheet.specs.declared.Mission.{Mission}
-use Rattle.sheet.specs.declared.Mission.TheVariants as mission
+use Rattle.record.specs.Records.{longest, Step, erased_bytes, erased_end}
 use Rattle.sheet.specs.declared.Checked.{Checked}
-use Rattle.sheet.specs.declared.Checked.TheVariants as checked
-use Rattle.sheet.specs.declared.walks.Ending.{Ending}
-use Rattle.sheet.specs.declared.walks.Ending.TheVariants.{Sound, Faulty}
-use Rattle.sheet.specs.Survey.{survey_of}
+use Rattle.sheet.specs.Survey.{Ending, survey_of}
 use Rattle.sheet.specs.Promise.{count_of}
 use Rattle.states.specs.declared.State.{State}
 use Rattle.states.specs.Words.{packed, unpacked}
@@ -96,29 +90,28 @@ fed_by st part = when ltb longest (st.count + length part) then keeping false (s
 abbrev pub ended_in : State → State
 ended_in st = record { ended = 1; count = st.count; mission = st.mission; curves = st.curves; place = st.place; erased = st.erased; words = st.words }
 
-abbrev pub mission_kept : State → Mission
-mission_kept st = when first_in st then mission.None else mission.Number st.mission
+abbrev pub mission_kept : State → Option ℕ
+mission_kept st = when first_in st then None else Some st.mission
 
-abbrev pub sound_in : State → Checked
-sound_in st = checked.Sheet (mission_kept st) st.curves
+abbrev pub sound_in : State → Result Checked Fault
+sound_in st = Ok (record { mission = mission_kept st; curves = st.curves })
 
-abbrev pub fault_behind : State → Refusal → ℕ → Checked
-fault_behind st r offset = checked.Refused (record { refusal = r; place = st.place + offset })
+abbrev pub fault_behind : State → Refusal → ℕ → Fault
+fault_behind st r offset = record { refusal = r; place = st.place + offset }
 
 -- no record stands behind the records
-abbrev pub answer_by : State → Step → Checked
-answer_by st step.Ends = sound_in st
-answer_by st (step.Fault r offset) = fault_behind st r offset
-answer_by st (step.Record k) = sound_in st
+abbrev pub answer_by : State → Step → Result Checked Fault
+answer_by st (Ok record_there) = sound_in st
+answer_by st (Err slip) = Err (fault_behind st slip.refusal slip.offset)
 
 -- the front may be erased as far as the state has it
-abbrev pub answer_with : State → Ending → Checked
-answer_with st Sound = answer_by st (erased_end st.erased (behind_in st))
-answer_with st (Faulty f) = fault_behind st f.refusal f.place
+abbrev pub answer_with : State → Ending → Result Checked Fault
+answer_with st (Ok done) = answer_by st (erased_end st.erased (behind_in st))
+answer_with st (Err f) = Err (fault_behind st f.refusal f.place)
 
-unfoldable pub answer_in : State → Checked
+unfoldable pub answer_in : State → Result Checked Fault
 answer_in st =
-    when ltb longest st.count then checked.Refused (record { refusal = refusal.TooLong; place = 0 })
+    when ltb longest st.count then Err (record { refusal = refusal.TooLong; place = 0 })
     else answer_with st (survey_of (first_in st) (front_in st)).ending
 
 pub record CurvesEnd (curves long : ℕ) : Type 0 where

@@ -1,14 +1,15 @@
-// From state to state, and to the answer.
+// From state to state, and to the answer. `as`: a place is at most 4,096 and a mission below 65,536, as the contracts show; `try_from` would have an
+// error that never comes.
 ghost use Rattle.std.specs.Prelude.{◌≡◌, false, [], suc, ◌+◌, ◌<◌, ◌≤◌, length};
 ghost use Rattle.record.specs.Records.{longest};
 ghost use Rattle.states.specs.States.{keeping};
 ghost use Rattle.states.specs.Steps.{erased_on, mission_on, after_records, onward as onward_of, fed_by, mission_kept, fault_behind, answer_in, Standing, Possible};
 
 use crate::State;
-use crate::front::{bytes_of, front_words, joined, least, words_of};
-use record::{LONGEST, LONGEST_RECORD, Step, erased_bytes, erased_end, mission_in};
-use refusal::{Fault, Refusal, nowhere};
-use sheet::{Checked, Ending, Mission, walk};
+use crate::front::{bytes_of, front_words, joined, words_of};
+use record::{LONGEST, LONGEST_RECORD, erased_bytes, erased_end, mission_in};
+use refusal::{Fault, Refusal};
+use sheet::{Checked, walk};
 
 // The mission's number behind records that the bytes behind a state's records begin with: a sheet's first record is its header.
 fn mission_on(state: State, bytes: &[u8]) -> usize
@@ -16,12 +17,13 @@ fn mission_on(state: State, bytes: &[u8]) -> usize
     ensures { result ≡ mission_on state bytes.now }
 {
     if state.place == 0 {
-        return mission_in(bytes) as usize;
+        return usize::from(mission_in(bytes));
     }
     state.mission
 }
 
-// The state behind some records that a part completes, of so many curves and bytes; `rest` is what the part has behind them.
+// The state behind some records that a part completes, of so many curves and bytes; `rest` is what the part has behind them. Six arguments and no
+// struct of them: they go together in the one call alone.
 fn after_records(
     state: State,
     count: usize,
@@ -34,14 +36,13 @@ fn after_records(
     ensures { result ≡ after_records state count mission curves size rest.now }
 {
     let w = walk(rest, false, 0);
-    let end = w.end;
-    let tail = &rest[end..];
+    let tail = &rest[w.end..];
     State {
         ended: 0,
         count,
         mission,
         curves: state.curves + curves + w.curves,
-        place: state.place + size + end,
+        place: state.place + size + w.end,
         erased: erased_bytes(tail),
         words: front_words(tail),
     }
@@ -65,30 +66,33 @@ fn onward(state: State, part: &[u8]) -> State
     ensures { result ≡ onward_of state part.now }
 {
     let left = state.count - state.place;
-    let held = least(left, LONGEST_RECORD);
-    let words = state.words;
-    let front = joined(&words, held, part);
+    let held = left.min(LONGEST_RECORD);
+    let front = joined(&state.words, held, part);
     let count = state.count + part.len();
-    let all = least(held + part.len(), LONGEST_RECORD);
+    let all = (held + part.len()).min(LONGEST_RECORD);
     let w = walk(&front[..all], state.place == 0, 0);
-    let size = w.end;
-    if size > 0 {
+    if w.end > 0 {
         let mission = mission_on(state, &front);
-        return after_records(state, count, mission, w.curves, size, &part[size - left..]);
+        return after_records(
+            state,
+            count,
+            mission,
+            w.curves,
+            w.end,
+            &part[w.end - left..],
+        );
     }
     State {
         ended: 0,
         count,
-        mission: state.mission,
-        curves: state.curves,
-        place: state.place,
         erased: erased_on(state, part),
         words: words_of(&front),
+        ..state
     }
 }
 
 // What is left of more bytes than a sheet has.
-fn overfull() -> State
+pub(crate) fn overfull() -> State
     ensures { result ≡ keeping false (suc longest) 0 0 0 [] }
 {
     State {
@@ -107,60 +111,50 @@ pub fn go_on(state: State, part: &[u8]) -> State
     requires { Possible state }
     ensures { result ≡ fed_by state part.now }
 {
-    if state.count > LONGEST {
-        return overfull();
-    }
-    if part.len() > LONGEST - state.count {
+    if state.count + part.len() > LONGEST {
         return overfull();
     }
     onward(state, part)
 }
 
 // A fault that stands so many bytes behind the records.
-fn fault_behind(state: State, refusal: Refusal, offset: usize) -> Checked
+fn fault_behind(state: State, refusal: Refusal, offset: usize) -> Fault
     requires { state.place + offset ≤ longest }
     ensures { result ≡ fault_behind state refusal offset }
 {
-    let place = (state.place + offset) as u32;
-    Checked::Refused(Fault { refusal, place })
+    Fault {
+        refusal,
+        place: (state.place + offset) as u32,
+    }
 }
 
 // The mission of a state's records.
-fn mission_of(state: State) -> Mission
+fn mission_of(state: State) -> Option<u16>
     requires { state.mission < 65536 }
     ensures { result ≡ mission_kept state }
 {
-    if state.place == 0 {
-        return Mission::None;
-    }
-    Mission::Number(state.mission as u16)
+    (state.place != 0).then_some(state.mission as u16)
 }
 
 // What the check of all the bytes answers.
-pub fn answer(state: State) -> Checked
+pub fn answer(state: State) -> Result<Checked, Fault>
     requires { Possible state }
     ensures { result ≡ answer_in state }
 {
     if state.count > LONGEST {
-        return Checked::Refused(nowhere(Refusal::TooLong));
+        return Err(Refusal::TooLong.into());
     }
     let left = state.count - state.place;
-    let held = least(left, LONGEST_RECORD);
-    let words = state.words;
-    let front = bytes_of(&words);
-    let w = walk(&front[..held], state.place == 0, 0);
-    let ending = w.ending;
-    match ending {
-        Ending::Faulty(f) => {
-            let refusal = f.refusal;
-            fault_behind(state, refusal, f.place as usize)
-        }
-        Ending::Sound => match erased_end(state.erased, left) {
-            Step::Fault(refusal, offset) => fault_behind(state, refusal, offset),
-            _ => Checked::Sheet {
-                mission: mission_of(state),
-                curves: state.curves,
-            },
-        },
+    let held = left.min(LONGEST_RECORD);
+    let front = bytes_of(&state.words);
+    if let Err(f) = walk(&front[..held], state.place == 0, 0).ending {
+        return Err(fault_behind(state, f.refusal, f.place as usize));
     }
+    if let Err(slip) = erased_end(state.erased, left) {
+        return Err(fault_behind(state, slip.refusal, slip.offset));
+    }
+    Ok(Checked {
+        mission: mission_of(state),
+        curves: state.curves,
+    })
 }

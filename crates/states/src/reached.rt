@@ -1,11 +1,12 @@
 // Whether a state is that of some bytes.
-ghost use Rattle.std.specs.Prelude.{◌≡◌, ◌≤◌, length};
+ghost use Rattle.std.specs.Prelude.{◌≤◌};
 ghost use Rattle.whole.specs.Number.{Tells};
 ghost use Rattle.states.specs.States.{Reached};
 ghost use Rattle.states.specs.Steps.{CurvesEnd, RecordsEnd, MissionFits, Fronted, Standing, Overfull};
 
 use crate::State;
-use crate::front::{bytes_of, front_words, least};
+use crate::front::{bytes_of, front_words};
+use crate::going::overfull;
 use record::{Kind, LONGEST, LONGEST_RECORD, erased_bytes, row_of};
 use sheet::walk;
 
@@ -15,14 +16,12 @@ fn curves_end(curves: usize, long: usize) -> bool
 {
     let cubic = row_of(Kind::Cubic).size;
     let more = row_of(Kind::Quintic).size - cubic;
+    // Before the difference, which is none where there are more.
     if curves > long / cubic {
         return false;
     }
     let left = long - curves * cubic;
-    if left % more != 0 {
-        return false;
-    }
-    left / more <= curves
+    left % more == 0 && left / more <= curves
 }
 
 // Whether records of so many curves may end at a place: they stand behind a header.
@@ -33,10 +32,7 @@ fn records_end(curves: usize, place: usize) -> bool
         return curves == 0;
     }
     let header = row_of(Kind::Header).size;
-    if place < header {
-        return false;
-    }
-    curves_end(curves, place - header)
+    place >= header && curves_end(curves, place - header)
 }
 
 // Whether the mission of records that end at a place may have that number.
@@ -44,23 +40,10 @@ fn mission_fits(mission: usize, place: usize) -> bool
     ensures { Tells (MissionFits mission place) result }
 {
     if place == 0 {
-        return mission == 0;
+        mission == 0
+    } else {
+        mission <= 65535
     }
-    mission <= 65535
-}
-
-fn are_same(a: &[u64; 7], b: &[u64; 7]) -> bool
-    requires { (length a.now ≡ 7) × (length b.now ≡ 7) }
-    ensures { Tells (a.now ≡ b.now) result }
-{
-    let mut i: usize = 0;
-    while i < 7 {
-        if a[i] != b[i] {
-            return false;
-        }
-        i += 1;
-    }
-    true
 }
 
 // Whether the words of a state and how many bytes FF come first belong together, and no whole record stands there.
@@ -69,74 +52,39 @@ fn is_fronted(state: State) -> bool
     ensures { Tells (Fronted state) result }
 {
     let left = state.count - state.place;
-    let held = least(left, LONGEST_RECORD);
-    let words = state.words;
-    let bytes = bytes_of(&words);
+    let held = left.min(LONGEST_RECORD);
+    let bytes = bytes_of(&state.words);
     let front = &bytes[..held];
-    if state.erased > left {
-        return false;
-    }
-    if least(LONGEST_RECORD, state.erased) != erased_bytes(front) {
-        return false;
-    }
-    if walk(front, state.place == 0, 0).end != 0 {
-        return false;
-    }
-    // Last, since bytes that have just been written are slow to copy.
-    let own = front_words(front);
-    are_same(&words, &own)
+    // The words last, since bytes that have just been written are slow to copy.
+    state.erased <= left
+        && LONGEST_RECORD.min(state.erased) == erased_bytes(front)
+        && walk(front, state.place == 0, 0).end == 0
+        && state.words == front_words(front)
 }
 
 // Whether the numbers of a state are those of a sheet that is not too long.
 fn is_standing(state: State) -> bool
-    ensures { Tells (Standing (state)) result }
+    ensures { Tells (Standing state) result }
 {
-    if state.count > LONGEST {
-        return false;
-    }
-    if state.place > state.count {
-        return false;
-    }
-    if !mission_fits(state.mission, state.place) {
-        return false;
-    }
-    if !records_end(state.curves, state.place) {
-        return false;
-    }
-    is_fronted(state)
+    state.count <= LONGEST
+        && state.place <= state.count
+        && mission_fits(state.mission, state.place)
+        && records_end(state.curves, state.place)
+        && is_fronted(state)
 }
 
 fn is_overfull(state: State) -> bool
-    ensures { Tells (Overfull (state)) result }
+    ensures { Tells (Overfull state) result }
 {
-    if state.count != LONGEST + 1 {
-        return false;
-    }
-    if state.mission != 0 {
-        return false;
-    }
-    if state.curves != 0 {
-        return false;
-    }
-    if state.place != 0 {
-        return false;
-    }
-    if state.erased != 0 {
-        return false;
-    }
-    let words = state.words;
-    let zeros: [u64; 7] = [0; 7];
-    are_same(&words, &zeros)
+    state
+        == State {
+            ended: state.ended,
+            ..overfull()
+        }
 }
 
 pub fn is_reached(state: State) -> bool
     ensures { Tells (Reached (state)) result }
 {
-    if state.ended > 1 {
-        return false;
-    }
-    if is_overfull(state) {
-        return true;
-    }
-    is_standing(state)
+    state.ended <= 1 && (is_overfull(state) || is_standing(state))
 }

@@ -8,7 +8,8 @@ ghost use Rattle.streams.specs.Said.{Says};
 use std::io;
 use std::io::{Read, Write};
 
-// Reads until the area is full or the input ends; how many bytes were read.
+// Reads until the area is full or the input ends; how many bytes were read. By hand: read_exact does not tell how many came before the end,
+// and read_to_end needs a heap.
 pub fn read_full<R: Read>(input: &mut R, area: &mut [u8]) -> io::Result<usize>
     ensures within { IfOk result (λ n. n ≤ length area.new) }
     ensures bytes { IfOk result (λ n. Consumes (R.remaining input.old) (R.remaining input.new) (take n area.new)) }
@@ -29,12 +30,9 @@ pub fn read_full<R: Read>(input: &mut R, area: &mut [u8]) -> io::Result<usize>
 fn reason_end(text: &[u8]) -> usize
     ensures { result ≤ length text.now }
 {
-    for i in 0..text.len() {
-        if text[i] == 0 || text[i..].starts_with(b" (os error ") {
-            return i;
-        }
-    }
-    text.len()
+    (0..text.len())
+        .find(|&i| text[i] == 0 || text[i..].starts_with(b" (os error "))
+        .unwrap_or(text.len())
 }
 
 // Says of a named thing why it cannot be read. The system's reasons have at most 256 bytes.

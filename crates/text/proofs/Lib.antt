@@ -1,4 +1,4 @@
--- Pieces of text, digits, and texts that are ended.
-pub mod Pieces
+-- Theorems: decimals, pieces that follow one another, and what was written.
 pub mod Decimals
+pub mod Pieces
 pub mod Held

@@ -1,16 +1,10 @@
 -- What a call that writes a text promises of the lent byte area.
---   answer_of_text       an answer in 01's terms: how many bytes were written, or ROOM
 --   asked, area_after   the answer and the area that a text asks for
 --   TextIn             the promise: the area holds such a text from its start, and zeros behind it; where it is too short, zeros alone
-use Rattle.std.specs.Prelude.{◌≡◌, List, ◌++◌, ℕ, ◌-◌, ltb, length, replicate}
+use Rattle.std.specs.Prelude.{◌≡◌, List, ◌++◌, ℕ, ◌-◌, ltb, length, replicate, Result}
+use Rattle.refusal.specs.declared.Refusal.{Refusal}
 use Rattle.refusal.specs.declared.Refusal.TheVariants as refusal
-use Rattle.refusal.specs.Answers.{Answer, given, refuse, when◌then◌else◌}
-use Rattle.text.specs.declared.TextAnswer.{TextAnswer}
-use Rattle.text.specs.declared.TextAnswer.TheVariants.{Written, Refused}
-
-abbrev pub answer_of_text : TextAnswer → Answer ℕ
-answer_of_text (Written n) = given n
-answer_of_text (Refused r) = refuse r 0
+use Rattle.refusal.specs.Answers.{Answer, given, refuse, answer_of, when◌then◌else◌}
 
 -- of an area of so many bytes
 unfoldable pub asked : ℕ → List ℕ → Answer ℕ
@@ -19,8 +13,8 @@ asked room text = when ltb room (length text) then refuse refusal.Room 0 else gi
 unfoldable pub area_after : ℕ → List ℕ → List ℕ
 area_after room text = when ltb room (length text) then replicate room 0 else text ++ replicate (room - length text) 0
 
-pub record TextIn (Is : List ℕ → Type 0) (before after : List ℕ) (r : TextAnswer) : Type 0 where
+pub record TextIn (Is : List ℕ → Type 0) (before after : List ℕ) (r : Result ℕ Refusal) : Type 0 where
   pub text : List ℕ
   pub is : Is text
-  pub says : answer_of_text r ≡ asked (length before) text
+  pub says : answer_of r ≡ asked (length before) text
   pub leaves : after ≡ area_after (length before) text

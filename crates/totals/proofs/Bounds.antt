@@ -17,21 +17,21 @@ use Rattle.sheet.proofs.Faults.{curves_few}
 use Rattle.totals.specs.declared.Counted.{Counted}
 use Rattle.totals.specs.declared.Counted.TheVariants.{Still, No, Ph, Pre}
 use Rattle.totals.specs.declared.Longest.{Longest}
-use Rattle.totals.specs.declared.Longest.TheVariants.{Curve, None}
+use Rattle.std.specs.Prelude.{Option, Some, None}
 use Rattle.totals.specs.Sheets.{CurvesAre, CheckedAs, SheetIs, SheetsAre}
 use Rattle.totals.specs.Totals.{Placed, placed, numbered, curves_from, hundredths_of, longer, own, longest_of}
 use Rattle.totals.proofs.Lists.{numbered_more}
 use Rattle.totals.proofs.Sizes.{curve_small, curves-long}
 use Rattle.totals.proofs.First.{EachIs, each_append}
 
-abbrev pub Light : ℕ → Longest → Type 0
+abbrev pub Light : ℕ → Option Longest → Type 0
 Light sheets None = Unit {0}
-Light sheets (Curve m s k) = (m ≤ 28284272) × (s ≤ sheets) × (k ≤ 113)
+Light sheets (Some l) = (l.hundredths ≤ 28284272) × (l.sheet ≤ sheets) × (l.number ≤ 113)
 
-longer_light : (n : ℕ) (x y : Longest) → Light n x → Light n y → Light n (longer x y)
+longer_light : (n : ℕ) (x y : Option Longest) → Light n x → Light n y → Light n (longer x y)
 longer_light n None y h k = k
-longer_light n (Curve m s j) None h k = h
-longer_light n (Curve m s j) (Curve o t l) h k = by_test (Light n) (ltb m o) (λ _. k) (λ _. h)
+longer_light n (Some a) None h k = h
+longer_light n (Some a) (Some b) h k = by_test (Light n) (ltb a.hundredths b.hundredths) (λ _. k) (λ _. h)
 
 pub longest_light : (n : ℕ) (ps : List Placed) → EachIs (Light n) ps → Light n (longest_of ps)
 longest_light n [] h = tt

@@ -10,7 +10,7 @@ use Rattle.refusal.specs.Answers.{Answer, refuse, given, when◌then◌else◌}
 use Rattle.whole.proofs.Linear.{linear}
 use Rattle.totals.specs.declared.Counted.{Counted}
 use Rattle.totals.specs.declared.Counted.TheVariants.{Still, No, Pre}
-use Rattle.totals.specs.declared.Longest.TheVariants.{Curve}
+use Rattle.std.specs.Prelude.{Some}
 use Rattle.totals.specs.declared.Totals.{Totals}
 use Rattle.totals.specs.Hundredths.{Hundredths}
 use Rattle.totals.specs.Totals.{totals_of}
@@ -25,7 +25,7 @@ abbrev pub three : List (Answer (List Counted))
 three = given (No ∷ Pre 424 ∷ Pre 707 ∷ []) ∷ refuse refusal.Leftover 52 ∷ given (Pre 707 ∷ Still ∷ []) ∷ []
 
 abbrev pub three_totals : Totals
-three_totals = record { sheets = 3; verdicts = 1 ∷ 1 ∷ 0 ∷ 3 ∷ []; refused = 0 ∷ 0 ∷ 1 ∷ 0 ∷ 0 ∷ 0 ∷ []; sum = 1838; longest = Curve 707 1 3 }
+three_totals = record { sheets = 3; verdicts = 1 ∷ 1 ∷ 0 ∷ 3 ∷ []; refused = 0 ∷ 0 ∷ 1 ∷ 0 ∷ 0 ∷ 0 ∷ []; sum = 1838; longest = Some (record { hundredths = 707; sheet = 1; number = 3 }) }
 
 pub three_totals_lem : totals_of three ≡ three_totals
 unfolding when◌then◌else◌

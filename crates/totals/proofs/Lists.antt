@@ -17,7 +17,7 @@ use Rattle.refusal.specs.Answers.{Answer, refused, given, when◌then◌else◌}
 use Rattle.refusal.proofs.Answers.{by_test}
 use Rattle.totals.specs.declared.Counted.{Counted}
 use Rattle.totals.specs.declared.Longest.{Longest}
-use Rattle.totals.specs.declared.Longest.TheVariants.{Curve, None}
+use Rattle.std.specs.Prelude.{Option, Some, None}
 use Rattle.totals.specs.Totals.{Placed, placed, numbered, curves_from, how_many, sum_of, longer, own, longest_of}
 
 pub numbered_more : (s k : ℕ) (xs : List Counted) (x : Counted) → numbered s k (xs ++ (x ∷ [])) ≡ numbered s k xs ++ (placed s (k + length xs) x ∷ [])
@@ -59,30 +59,30 @@ sum-append (p ∷ ps) qs = omega (arith, sum-append ps qs)
 
 -- ---- the longest
 
-pub longer-none : (a : Longest) → longer a None ≡ a
-longer-none (Curve m s k) = refl
+pub longer-none : (a : Option Longest) → longer a None ≡ a
+longer-none (Some a) = refl
 longer-none None = refl
 
-pub longer-first : (m n s t k l : ℕ) → n ≤ m → longer (Curve m s k) (Curve n t l) ≡ Curve m s k
+pub longer-first : (a b : Longest) → b.hundredths ≤ a.hundredths → longer (Some a) (Some b) ≡ Some a
 unfolding when◌then◌else◌
-longer-first m n s t k l h = rw (le-ltb m n h) refl
+longer-first a b h = rw (le-ltb a.hundredths b.hundredths h) refl
 
-pub longer-second : (m n s t k l : ℕ) → m < n → longer (Curve m s k) (Curve n t l) ≡ Curve n t l
+pub longer-second : (a b : Longest) → a.hundredths < b.hundredths → longer (Some a) (Some b) ≡ Some b
 unfolding when◌then◌else◌
-longer-second m n s t k l h = rw (lt-ltb m n h) refl
+longer-second a b h = rw (lt-ltb a.hundredths b.hundredths h) refl
 
-pub longer_assoc : (a b c : Longest) → longer (longer a b) c ≡ longer a (longer b c)
+pub longer_assoc : (a b c : Option Longest) → longer (longer a b) c ≡ longer a (longer b c)
 unfolding when◌then◌else◌
 longer_assoc None b c = refl
-longer_assoc (Curve m s k) None c = refl
-longer_assoc (Curve m s k) (Curve n t l) None = longer-none _
-longer_assoc (Curve m s k) (Curve n t l) (Curve o u j) = by (ltb m n) refl (ltb n o) refl
+longer_assoc (Some a) None c = refl
+longer_assoc (Some a) (Some b) None = longer-none _
+longer_assoc (Some a) (Some b) (Some c) = by (ltb a.hundredths b.hundredths) refl (ltb b.hundredths c.hundredths) refl
   where
-    by : (p : Bool) → ltb m n ≡ p → (q : Bool) → ltb n o ≡ q → longer (longer (Curve m s k) (Curve n t l)) (Curve o u j) ≡ longer (Curve m s k) (longer (Curve n t l) (Curve o u j))
-    by true h true g = let e = lt-ltb m o (omega (arith, ltb-true m n h, ltb-true n o g)) in rw (h, g, e) refl
+    by : (p : Bool) → ltb a.hundredths b.hundredths ≡ p → (q : Bool) → ltb b.hundredths c.hundredths ≡ q → longer (longer (Some a) (Some b)) (Some c) ≡ longer (Some a) (longer (Some b) (Some c))
+    by true h true g = let e = lt-ltb a.hundredths c.hundredths (omega (arith, ltb-true a.hundredths b.hundredths h, ltb-true b.hundredths c.hundredths g)) in rw (h, g, e) refl
     by true h false g = rw (h, g) (rw h refl)
     by false h true g = rw (h, g) refl
-    by false h false g = let e = le-ltb m o (omega (arith, ltb-false m n h, ltb-false n o g)) in rw (h, g) (rw (h, e) refl)
+    by false h false g = let e = le-ltb a.hundredths c.hundredths (omega (arith, ltb-false a.hundredths b.hundredths h, ltb-false b.hundredths c.hundredths g)) in rw (h, g) (rw (h, e) refl)
 
 pub longest-append : (ps qs : List Placed) → longest_of (ps ++ qs) ≡ longer (longest_of ps) (longest_of qs)
 longest-append [] qs = refl

@@ -6,8 +6,9 @@ use mathlib.Core.Path.{◌≡◌, sym, ap, ap₂, ◌∙◌, subst}
 use mathlib.Core.List.{List, [], ◌∷◌, ◌++◌}
 use Prim.Native.Nat.{ℕ, zero, suc, ◌<◌, ◌≤◌}
 use native.Mathlib.Omega.{arith}
-use Rattle.refusal.specs.Answers.{Answer, refused, given, with_given}
-use Rattle.refusal.proofs.Answers.{by_order}
+use Rattle.std.specs.Prelude.{Ok}
+use Rattle.refusal.specs.Answers.{Answer, refused, given, with_given, answer_at}
+use Rattle.refusal.proofs.Answers.{by_order, fault_answer_once}
 use Rattle.curve.specs.declared.Curve.{Curve}
 use Rattle.curve.specs.Curves.{points_of}
 use Rattle.verdict.specs.declared.Verdict.{Verdict}
@@ -15,8 +16,8 @@ use Rattle.verdict.specs.declared.Verdict.TheVariants as verdict
 use Rattle.verdict.specs.Promise.{Recognised}
 use Rattle.verdict.proofs.Once.{recognised_once}
 use Rattle.sheet.specs.Survey.{outcome}
-use Rattle.sheet.specs.Promise.{answer_of_checked, count_of}
-use Rattle.sheet.proofs.Once.{has_once, checked_same}
+use Rattle.sheet.specs.Promise.{count_of}
+use Rattle.sheet.proofs.Once.{has_once}
 use Rattle.totals.specs.declared.Counted.{Counted}
 use Rattle.totals.specs.declared.Counted.TheVariants.{Pre}
 use Rattle.totals.specs.declared.Totals.{Totals}
@@ -31,7 +32,6 @@ counts_once curve verdict.Still x y h k = h ∙ sym k
 counts_once curve verdict.No x y h k = h ∙ sym k
 counts_once curve (verdict.Ph s) x y h k = h ∙ sym k
 counts_once curve (verdict.Pre p) x y (m, h, e) (n, k, f) = e ∙ ap Pre (hundredths_once _ m n h k) ∙ sym f
-counts_once curve (verdict.Refused r) x y h k = absurd h
 
 pub curve_once : (s : List ℕ) (number : ℕ) (x y : Counted) → CurveIs s number x → CurveIs s number y → x ≡ y
 curve_once s number x y h k =
@@ -42,9 +42,8 @@ curve_once s number x y h k =
 
     v : h.verdict ≡ k.verdict
     v =
-        recognised_once (points_of k.curve) h.verdict k.verdict
-        (subst (λ (d : Curve). Recognised (points_of d) h.verdict) c h.recognised)
-        k.recognised
+        let e = recognised_once (points_of k.curve) (Ok h.verdict) (Ok k.verdict) (subst (λ (d : Curve). Recognised (points_of d) (Ok h.verdict)) c h.recognised) k.recognised in
+        cc
 
 pub curves_once : (s : List ℕ) (n : ℕ) (xs ys : List Counted) → CurvesAre s n xs → CurvesAre s n ys → xs ≡ ys
 curves_once s zero xs ys h k = h ∙ sym k
@@ -70,8 +69,8 @@ totals_once ss t u (xs, h, e) (ys, k, f) = e ∙ ap totals_of (sheets_once ss xs
 pub adds_once : (t : Totals) (s : List ℕ) (r q : Added) → Adds t s r → Adds t s q → r ≡ q
 adds_once t s r q h k = by_order (suc t.sheets) 1000 room full
   where
-    both : r.totals ≡ q.totals → answer_of_checked r.answer ≡ answer_of_checked q.answer → r ≡ q
-    both e f = λ i. record { totals = e i; answer = checked_same r.answer q.answer f i }
+    both : r.totals ≡ q.totals → answer_at r.answer ≡ answer_at q.answer → r ≡ q
+    both e f = λ i. record { totals = e i; answer = fault_answer_once r.answer q.answer f i }
 
     room : suc t.sheets ≤ 1000 → r ≡ q
     room l =

@@ -8,6 +8,7 @@ use mathlib.Core.List.{List, [], ◌∷◌, ◌++◌, append-nil}
 use Prim.Native.Nat.{ℕ, zero, suc, ◌+◌, ◌*◌, ◌≤◌}
 use native.Mathlib.Omega.{arith}
 use lib.ListN.{length, length-append}
+use Rattle.std.specs.Prelude.{Ok}
 use Rattle.refusal.specs.Answers.{Answer, refused, given, with_given}
 use Rattle.verdict.specs.declared.Verdict.{Verdict}
 use Rattle.verdict.specs.declared.Verdict.TheVariants as verdict
@@ -25,12 +26,11 @@ use Rattle.totals.specs.Totals.{Placed, placed, numbered, curves_from, hundredth
 use Rattle.totals.proofs.Reached.{hundredths_small}
 use Rattle.totals.proofs.Lists.{numbered_more, sum-append}
 
-judged_small : (curve : Curve) (v : Verdict) (x : Counted) → InRange (points_of curve) → Recognised (points_of curve) v → CountsFor curve v x → hundredths_of x ≤ 28284272
+judged_small : (curve : Curve) (v : Verdict) (x : Counted) → InRange (points_of curve) → Recognised (points_of curve) (Ok v) → CountsFor curve v x → hundredths_of x ≤ 28284272
 judged_small curve verdict.Still x r h e = omega (arith, ap hundredths_of e)
 judged_small curve verdict.No x r h e = omega (arith, ap hundredths_of e)
 judged_small curve (verdict.Ph s) x r h e = omega (arith, ap hundredths_of e)
 judged_small curve (verdict.Pre p) x r h (m, k, e) = omega (arith, ap hundredths_of e, hundredths_small curve p r h.1.1 m k)
-judged_small curve (verdict.Refused f) x r h e = absurd e
 
 pub curve_small : (s : List ℕ) (number : ℕ) (x : Counted) → CurveIs s number x → hundredths_of x ≤ 28284272
 curve_small s number x h = judged_small h.curve h.verdict x (curve_in_range s number h.curve h.has) h.recognised h.counts

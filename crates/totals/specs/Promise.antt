@@ -7,8 +7,8 @@ use Rattle.std.specs.Prelude.{◌≡◌, List, [], ◌∷◌, ◌++◌, ℕ, ◌
 use Rattle.refusal.specs.declared.Refusal.TheVariants as refusal
 use Rattle.refusal.specs.declared.Fault.{Fault}
 use Rattle.refusal.specs.Table.{number_of}
-use Rattle.refusal.specs.Answers.{Answer, refused, given, refuse}
-use Rattle.sheet.specs.Promise.{answer_of_checked, Checks}
+use Rattle.refusal.specs.Answers.{Answer, refused, given, refuse, answer_at}
+use Rattle.sheet.specs.Promise.{Checks}
 use Rattle.totals.specs.declared.Counted.{Counted}
 use Rattle.totals.specs.declared.Totals.{Totals}
 use Rattle.totals.specs.declared.Added.{Added}
@@ -59,4 +59,4 @@ pub record Taken (t : Totals) (s : List ℕ) (r : Added) : Type 0 where
 -- a full box stays as it is
 pub record Adds (t : Totals) (s : List ℕ) (r : Added) : Type 0 where
   pub room : t.sheets < 1000 → Taken t s r
-  pub full : 1000 ≤ t.sheets → (r.totals ≡ t) × (answer_of_checked r.answer ≡ refuse refusal.Full 1001)
+  pub full : 1000 ≤ t.sheets → (r.totals ≡ t) × (answer_at r.answer ≡ refuse refusal.Full 1001)

@@ -3,7 +3,7 @@
 --   CurveIs, CurvesAre  the curve of a number, and the first curves of a sheet, as they stand there and `recognise` judges them
 --   CheckedAs           a sheet with so many curves, or with that fault
 --   SheetIs, SheetsAre  a sheet: its curves in order, or its fault; and each sheet of a list
-use Rattle.std.specs.Prelude.{◌≡◌, List, [], ◌∷◌, ◌++◌, ℕ, zero, suc}
+use Rattle.std.specs.Prelude.{◌≡◌, List, [], ◌∷◌, ◌++◌, ℕ, zero, suc, Ok}
 use Rattle.refusal.specs.Answers.{Answer, refused, given, with_given}
 use Rattle.curve.specs.declared.Curve.{Curve}
 use Rattle.curve.specs.Curves.{points_of}
@@ -17,19 +17,17 @@ use Rattle.totals.specs.declared.Counted.{Counted}
 use Rattle.totals.specs.declared.Counted.TheVariants.{Still, No, Ph, Pre}
 use Rattle.totals.specs.Hundredths.{Hundredths}
 
--- a curve of a sound sheet is in range, so the last case does not occur
 abbrev pub CountsFor : Curve → Verdict → Counted → Type 0
 CountsFor curve verdict.Still x = x ≡ Still
 CountsFor curve verdict.No x = x ≡ No
 CountsFor curve (verdict.Ph s) x = x ≡ Ph
 CountsFor curve (verdict.Pre p) x = (m : ℕ) × Hundredths (length_of curve p.square) m × (x ≡ Pre m)
-CountsFor curve (verdict.Refused r) x = ⊥
 
 pub record CurveIs (s : List ℕ) (number : ℕ) (x : Counted) : Type 0 where
   pub curve : Curve
   pub verdict : Verdict
   pub has : HasCurve s number curve
-  pub recognised : Recognised (points_of curve) verdict
+  pub recognised : Recognised (points_of curve) (Ok verdict)
   pub counts : CountsFor curve verdict x
 
 abbrev pub CurvesAre : List ℕ → ℕ → List Counted → Type 0

@@ -2,23 +2,21 @@
 --   Measurable      a length whose hundredths the machine can count
 --   JudgedAs        what a curve counts for, by its verdict
 --   CountsCurves    the totals with the first curves of a sheet more
---   curves_of, with_answer    how many curves of a sheet are counted, and its refusal, by what its check answers
 --   Takes           what a sheet adds to totals that have its number already
-use Rattle.std.specs.Prelude.{◌≡◌, List, ℕ, ◌*◌, ◌≤◌, pos, nat_abs, ◌≤ℤ◌, ◌<ℤ◌}
-use Rattle.refusal.specs.Answers.{Answer, refused, given}
+use Rattle.std.specs.Prelude.{◌≡◌, List, ℕ, ◌*◌, ◌≤◌, pos, nat_abs, ◌≤ℤ◌, ◌<ℤ◌, Ok}
+use Rattle.refusal.specs.Answers.{Answer}
 use Rattle.curve.specs.declared.Curve.{Curve}
 use Rattle.curve.specs.Curves.{points_of}
 use Rattle.verdict.specs.declared.Verdict.{Verdict}
 use Rattle.verdict.specs.Promise.{Recognised}
 use Rattle.measure.specs.declared.lengths.Length.{Length}
-use Rattle.sheet.specs.declared.Mission.{Mission}
 use Rattle.sheet.specs.Promise.{Checks}
 use Rattle.totals.specs.declared.Counted.{Counted}
 use Rattle.totals.specs.declared.Totals.{Totals}
 use Rattle.totals.specs.declared.Added.{Added}
 use Rattle.totals.specs.Sheets.{CountsFor, CurvesAre, SheetIs}
 use Rattle.totals.specs.Totals.{numbered}
-use Rattle.totals.specs.Promise.{with_curves, with_refused, counting}
+use Rattle.totals.specs.Promise.{with_curves, counting}
 
 pub record Measurable (l : Length) : Type 0 where
   pub some_c : pos 0 <ℤ l.c
@@ -29,22 +27,13 @@ pub record Measurable (l : Length) : Type 0 where
 
 pub record JudgedAs (curve : Curve) (x : Counted) : Type 0 where
   pub verdict : Verdict
-  pub recognised : Recognised (points_of curve) verdict
+  pub recognised : Recognised (points_of curve) (Ok verdict)
   pub counts : CountsFor curve verdict x
 
 pub record CountsCurves (t : Totals) (s : List ℕ) (n : ℕ) (r : Totals) : Type 0 where
   pub curves : List Counted
   pub are : CurvesAre s n curves
   pub counts : r ≡ with_curves t (numbered t.sheets 1 curves)
-
--- how many curves are counted of a sheet whose check answers that
-abbrev pub curves_of : Answer (Mission × ℕ) → ℕ
-curves_of (refused f) = 0
-curves_of (given told) = told.1
-
-abbrev pub with_answer : Totals → Answer (Mission × ℕ) → Totals
-with_answer t (refused f) = with_refused t f
-with_answer t (given told) = t
 
 pub record Takes (t : Totals) (s : List ℕ) (r : Added) : Type 0 where
   pub counted : Answer (List Counted)

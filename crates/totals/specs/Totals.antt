@@ -9,12 +9,11 @@
 --   how_many, verdict_at, with_verdict, refused_by     how many curves have a verdict; how many sheets are refused by a number
 --   up_to                the numbers of a table's rows
 --   totals_of, IsTotals  the totals: of what the sheets count for, and of the sheets
-use Rattle.std.specs.Prelude.{◌≡◌, List, [], ◌∷◌, ◌++◌, map, ℕ, zero, suc, ◌+◌, eqb, ltb, length}
+use Rattle.std.specs.Prelude.{◌≡◌, List, [], ◌∷◌, ◌++◌, map, ℕ, zero, suc, ◌+◌, eqb, ltb, length, Option, Some, None}
 use Rattle.refusal.specs.Answers.{Answer, refused, given, number_of_answer, when◌then◌else◌}
 use Rattle.totals.specs.declared.Counted.{Counted}
 use Rattle.totals.specs.declared.Counted.TheVariants.{Still, No, Ph, Pre}
 use Rattle.totals.specs.declared.Longest.{Longest}
-use Rattle.totals.specs.declared.Longest.TheVariants.{Curve, None}
 use Rattle.totals.specs.declared.Totals.{Totals}
 use Rattle.totals.specs.Sheets.{SheetsAre}
 
@@ -51,21 +50,21 @@ abbrev pub sum_of : List Placed → ℕ
 sum_of [] = 0
 sum_of (p ∷ ps) = hundredths_of p.is + sum_of ps
 
-abbrev pub longer : Longest → Longest → Longest
+abbrev pub longer : Option Longest → Option Longest → Option Longest
 longer None y = y
-longer (Curve m s k) None = Curve m s k
-longer (Curve m s k) (Curve n t l) = when ltb m n then Curve n t l else Curve m s k
+longer (Some a) None = Some a
+longer (Some a) (Some b) = when ltb a.hundredths b.hundredths then Some b else Some a
 
-abbrev pub length_at : ℕ → ℕ → Counted → Longest
+abbrev pub length_at : ℕ → ℕ → Counted → Option Longest
 length_at s k Still = None
 length_at s k No = None
 length_at s k Ph = None
-length_at s k (Pre m) = Curve m s k
+length_at s k (Pre m) = Some (record { hundredths = m; sheet = s; number = k })
 
-abbrev pub own : Placed → Longest
+abbrev pub own : Placed → Option Longest
 own p = length_at p.sheet p.number p.is
 
-abbrev pub longest_of : List Placed → Longest
+abbrev pub longest_of : List Placed → Option Longest
 longest_of [] = None
 longest_of (p ∷ ps) = longer (own p) (longest_of ps)
 

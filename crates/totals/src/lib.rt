@@ -9,17 +9,16 @@ mod counting;
 mod judging;
 
 ghost use Rattle.std.specs.Prelude.{◌≡◌, [], ◌<◌};
-ghost use Rattle.sheet.specs.Promise.{answer_of_checked};
 ghost use Rattle.totals.specs.Totals.{totals_of};
 ghost use Rattle.totals.specs.Promise.{with_refused, one_more, Adds};
-ghost use Rattle.totals.specs.Steps.{curves_of, with_answer, Takes};
+ghost use Rattle.totals.specs.Steps.{Takes};
 
 use counting::{count_curves, mark};
 use refusal::{Fault, Refusal, number};
 use sheet::Checked;
 
 // What is counted of a curve: its verdict and, of one with a pre-image, its length in whole hundredths.
-#[derive(Clone, Copy)]
+#[derive(Clone, Copy, Debug, PartialEq, Eq)]
 pub enum Counted {
     Still,
     No,
@@ -27,35 +26,33 @@ pub enum Counted {
     Pre(u64),
 }
 
-// The longest curve, with its length in whole hundredths, the number of its sheet and its number there; or that no curve was measured.
-#[derive(Clone, Copy)]
-pub enum Longest {
-    Curve {
-        hundredths: u64,
-        sheet: u64,
-        number: u64,
-    },
-    None,
+// The longest curve: its length in whole hundredths, the number of its sheet and its number there.
+#[derive(Clone, Copy, Debug, PartialEq, Eq)]
+pub struct Longest {
+    pub hundredths: u64,
+    pub sheet: u64,
+    pub number: u64,
 }
 
-// `verdicts` counts still, no, ph and pre, in this order, and `refused` the sheets with the refusals 1 to 6.
-#[derive(Clone, Copy)]
+// `verdicts` counts still, no, ph and pre, in this order, and `refused` the sheets with the refusals 1 to 6. There is no longest curve where
+// none was measured.
+#[derive(Clone, Copy, Debug, PartialEq, Eq)]
 pub struct Totals {
     pub sheets: u64,
     pub verdicts: [u64; 4],
     pub refused: [u64; 6],
     pub sum: u64,
-    pub longest: Longest,
+    pub longest: Option<Longest>,
 }
 
 // The totals, and what was said of the sheet: its mission and how many curves it has, or its fault, or that the box is full.
-#[derive(Clone, Copy)]
+#[derive(Clone, Copy, Debug, PartialEq, Eq)]
 pub struct Added {
     pub totals: Totals,
-    pub answer: Checked,
+    pub answer: Result<Checked, Fault>,
 }
 
-// The totals of an empty box.
+// The totals of an empty box. Written out: a derived Default is no plainer, a second public way to the same value that names no field.
 pub fn no_sheets() -> Totals
     ensures { result ≡ totals_of [] }
 {
@@ -64,66 +61,25 @@ pub fn no_sheets() -> Totals
         verdicts: [0; 4],
         refused: [0; 6],
         sum: 0,
-        longest: Longest::None,
+        longest: None,
     }
 }
 
 // The totals with a refused sheet more.
-fn with_refused(t: Totals, f: Fault) -> Totals
+fn with_refused(mut t: Totals, f: Fault) -> Totals
     ensures { result ≡ with_refused t f }
 {
-    let verdicts = t.verdicts;
-    let longest = t.longest;
-    let mut refused = t.refused;
-    let refusal = f.refusal;
-    mark(&mut refused, number(refusal) as usize - 1);
-    Totals {
-        sheets: t.sheets,
-        verdicts,
-        refused,
-        sum: t.sum,
-        longest,
-    }
-}
-
-// How many curves of a sheet are counted: none of a faulty one.
-fn curves_of(answer: Checked) -> usize
-    ensures { result ≡ curves_of (answer_of_checked answer) }
-{
-    match answer {
-        Checked::Sheet { mission: _, curves } => curves,
-        Checked::Refused(_) => 0,
-    }
-}
-
-// The totals with what the check said of a sheet.
-fn with_answer(t: Totals, answer: Checked) -> Totals
-    ensures { result ≡ with_answer t (answer_of_checked answer) }
-{
-    match answer {
-        Checked::Sheet {
-            mission: _,
-            curves: _,
-        } => t,
-        Checked::Refused(f) => with_refused(t, f),
-    }
+    mark(&mut t.refused, usize::from(number(f.refusal)) - 1);
+    t
 }
 
 // The same totals, and the number of the next sheet.
-fn one_more(t: Totals) -> Totals
+fn one_more(mut t: Totals) -> Totals
     requires { t.sheets < 1000 }
     ensures { result ≡ one_more t }
 {
-    let verdicts = t.verdicts;
-    let refused = t.refused;
-    let longest = t.longest;
-    Totals {
-        sheets: t.sheets + 1,
-        verdicts,
-        refused,
-        sum: t.sum,
-        longest,
-    }
+    t.sheets += 1;
+    t
 }
 
 // The totals with a sheet more, which has its number already.
@@ -131,8 +87,10 @@ fn take(t: Totals, sheet: &[u8]) -> Added
     ensures { Takes t sheet.now result }
 {
     let answer = sheet::check(sheet);
-    let counted = count_curves(t, sheet, curves_of(answer));
-    let totals = with_answer(counted, answer);
+    let totals = match answer {
+        Ok(told) => count_curves(t, sheet, told.curves),
+        Err(f) => with_refused(t, f),
+    };
     Added { totals, answer }
 }
 
@@ -147,7 +105,7 @@ pub fn add_sheet(t: Totals, sheet: &[u8]) -> Added
         };
         return Added {
             totals: t,
-            answer: Checked::Refused(full),
+            answer: Err(full),
         };
     }
     take(one_more(t), sheet)

@@ -4,7 +4,7 @@
 use mathlib.Core.Path.{◌≡◌, refl}
 use Rattle.refusal.specs.declared.Refusal.TheVariants as refusal
 use Rattle.refusal.specs.Answers.{given, refuse, when◌then◌else◌}
-use Rattle.sheet.specs.declared.Mission.TheVariants.{Number}
+use Rattle.std.specs.Prelude.{Some}
 use Rattle.text.specs.Texts.{bytes, digits_of}
 use Rattle.totals.proofs.Examples.{three_totals}
 use Rattle.totals_text.specs.Texts.{totals_text, sheet_line}
@@ -15,7 +15,7 @@ three-text :
 unfolding digits_of when◌then◌else◌
 three-text = refl
 
-sound-line : sheet_line 1 (bytes "first.sheet") (given (Number 7, 3)) ≡ bytes "1 first.sheet: 3 curves\n"
+sound-line : sheet_line 1 (bytes "first.sheet") (given (record { mission = Some 7; curves = 3 })) ≡ bytes "1 first.sheet: 3 curves\n"
 unfolding digits_of when◌then◌else◌
 sound-line = refl
 

@@ -9,18 +9,18 @@ use native.Mathlib.Omega.{arith}
 use lib.IntN.{pos}
 use lib.ListN.{length, length-append}
 use Rattle.refusal.specs.Table.{number_of}
-use Rattle.refusal.specs.Answers.{number_of_answer}
+use Rattle.std.specs.Prelude.{Option, Some, None, Result, Ok, Err}
+use Rattle.refusal.specs.declared.Fault.{Fault}
+use Rattle.refusal.specs.Answers.{number_of_answer, answer_at}
 use Rattle.refusal.proofs.Answers.{refused-back}
 use Rattle.refusal.proofs.Laws.{number_small}
 use Rattle.sheet.specs.declared.Checked.{Checked}
-use Rattle.sheet.specs.declared.Checked.TheVariants as checked
 use Rattle.sheet.specs.Survey.{outcome}
-use Rattle.sheet.specs.Promise.{answer_of_checked, told_of, Checks}
+use Rattle.sheet.specs.Promise.{told_of, Checks}
 use Rattle.sheet.proofs.Faults.{check_few, fault_near}
 use Rattle.text.specs.Texts.{bytes, decimal, labelled}
 use Rattle.text.proofs.Decimals.{decimal_few}
 use Rattle.totals.specs.declared.Longest.{Longest}
-use Rattle.totals.specs.declared.Longest.TheVariants.{Curve, None}
 use Rattle.totals.specs.declared.Totals.{Totals}
 use Rattle.totals.specs.Totals.{curves_from, verdict_at, with_verdict, refused_by, totals_of, IsTotals}
 use Rattle.totals.proofs.Lists.{many_few}
@@ -29,11 +29,11 @@ use Rattle.totals.proofs.Bounds.{Light, longest_light, sheets_light}
 use Rattle.totals_text.specs.Texts.{hundredths_text, count_line, verdict_lines, refusal_lines, longest_line, totals_text, front, said, sheet_line}
 
 -- ---- the line of a sheet
-said_short : (s : List ℕ) (r : Checked) → Checks s r → length (said (answer_of_checked r)) ≤ 20
-said_short s (checked.Sheet m n) h =
-    let few = check_few s m n h in
-    omega (arith, length-append (decimal n) (bytes " curves\n"), decimal_few 2 n (omega arith))
-said_short s (checked.Refused f) h =
+said_short : (s : List ℕ) (r : Result Checked Fault) → Checks s r → length (said (answer_at r)) ≤ 20
+said_short s (Ok told) h =
+    let few = check_few s told h in
+    omega (arith, length-append (decimal told.curves) (bytes " curves\n"), decimal_few 2 told.curves (omega arith))
+said_short s (Err f) h =
     let front = labelled "refused " (pos (number_of f.refusal)) in
     let back = labelled " at " (pos f.place) in
     omega (
@@ -46,12 +46,12 @@ said_short s (checked.Refused f) h =
       decimal_few 3 f.place (omega (arith, fault_near s f (refused-back told_of (outcome s) (sym h)))),
     )
 
-pub line_short : (n : ℕ) (name s : List ℕ) (r : Checked) → n ≤ 1000 → Checks s r → length (sheet_line n name (answer_of_checked r)) ≤ length name + 32
+pub line_short : (n : ℕ) (name s : List ℕ) (r : Result Checked Fault) → n ≤ 1000 → Checks s r → length (sheet_line n name (answer_at r)) ≤ length name + 32
 line_short n name s r l h =
     let digits = decimal n in
     omega (
       arith,
-      length-append (front n name) (said (answer_of_checked r)),
+      length-append (front n name) (said (answer_at r)),
       length-append (digits ++ bytes " " ++ name) (bytes ": "),
       length-append (digits ++ bytes " ") name,
       length-append digits (bytes " "),
@@ -76,20 +76,20 @@ hundredths_short k m l =
       decimal_few 0 (m % 10) (omega arith),
     )
 
-longest_short : (x : Longest) → Light 1000 x → length (longest_line x) ≤ 48
+longest_short : (x : Option Longest) → Light 1000 x → length (longest_line x) ≤ 48
 longest_short None h = omega arith
-longest_short (Curve m s k) h =
-    let a = bytes "longest " ++ hundredths_text m in
-    let b = labelled " sheet " (pos s) in
+longest_short (Some l) h =
+    let a = bytes "longest " ++ hundredths_text l.hundredths in
+    let b = labelled " sheet " (pos l.sheet) in
     omega (
       arith,
-      length-append (a ++ b) (count_line " curve " k),
+      length-append (a ++ b) (count_line " curve " l.number),
       length-append a b,
-      length-append (bytes "longest ") (hundredths_text m),
-      hundredths_short 5 m (omega (arith, h.0)),
-      length-append (bytes " sheet ") (decimal s),
-      decimal_few 3 s (omega (arith, h.1)),
-      count_short " curve " 2 k (omega (arith, h.2)),
+      length-append (bytes "longest ") (hundredths_text l.hundredths),
+      hundredths_short 5 l.hundredths (omega (arith, h.0)),
+      length-append (bytes " sheet ") (decimal l.sheet),
+      decimal_few 3 l.sheet (omega (arith, h.1)),
+      count_short " curve " 2 l.number (omega (arith, h.2)),
     )
 
 verdicts_short : (v : ℕ → ℕ) → ((i : ℕ) → v i ≤ 113000) → length (verdict_lines (v 0 ∷ v 1 ∷ v 2 ∷ v 3 ∷ [])) ≤ 64

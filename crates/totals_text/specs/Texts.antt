@@ -5,14 +5,13 @@
 --   longest_line                 the longest curve, or that there is none
 --   totals_text                  the lines of the totals
 --   front, said, sheet_line      a sheet's number and name; what was said of it; its line
-use Rattle.std.specs.Prelude.{List, ◌++◌, ℕ, ◌/◌, ◌%◌, pos, get_or}
+use Rattle.std.specs.Prelude.{List, ◌++◌, ℕ, ◌/◌, ◌%◌, pos, get_or, Option, Some, None}
 use Prim.Native.String.{String}
 use Rattle.refusal.specs.Answers.{Answer, refused, given}
-use Rattle.sheet.specs.declared.Mission.{Mission}
+use Rattle.sheet.specs.declared.Checked.{Checked}
 use Rattle.text.specs.Texts.{bytes, decimal, labelled}
 use Rattle.report_text.specs.Texts.{refused_line}
 use Rattle.totals.specs.declared.Longest.{Longest}
-use Rattle.totals.specs.declared.Longest.TheVariants.{Curve, None}
 use Rattle.totals.specs.declared.Totals.{Totals}
 
 abbrev pub hundredths_text : ℕ → List ℕ
@@ -33,9 +32,9 @@ refusal_lines n =
     ++ count_line "refused 5 " (get_or n 4 0)
     ++ count_line "refused 6 " (get_or n 5 0)
 
-abbrev pub longest_line : Longest → List ℕ
+abbrev pub longest_line : Option Longest → List ℕ
 longest_line None = bytes "longest none\n"
-longest_line (Curve m s k) = bytes "longest " ++ hundredths_text m ++ labelled " sheet " (pos s) ++ count_line " curve " k
+longest_line (Some l) = bytes "longest " ++ hundredths_text l.hundredths ++ labelled " sheet " (pos l.sheet) ++ count_line " curve " l.number
 
 abbrev pub totals_text : Totals → List ℕ
 totals_text t =
@@ -49,9 +48,9 @@ abbrev pub front : ℕ → List ℕ → List ℕ
 front number name = decimal number ++ bytes " " ++ name ++ bytes ": "
 
 -- a sheet's mission is not told
-abbrev pub said : Answer (Mission × ℕ) → List ℕ
-said (given (m, curves)) = decimal curves ++ bytes " curves\n"
+abbrev pub said : Answer Checked → List ℕ
+said (given told) = decimal told.curves ++ bytes " curves\n"
 said (refused f) = refused_line f
 
-abbrev pub sheet_line : ℕ → List ℕ → Answer (Mission × ℕ) → List ℕ
+abbrev pub sheet_line : ℕ → List ℕ → Answer Checked → List ℕ
 sheet_line number name a = front number name ++ said a

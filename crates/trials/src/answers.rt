@@ -1,48 +1,35 @@
 // What a call returned, and what a lent number area holds.
-use crate::words::{say, say_number, say_signed};
 use std::io;
 use std::io::Write;
-use whole::size;
 
 // The refusal's number.
 pub(crate) fn say_refused<W: Write>(to: &mut W, returned: i64) -> io::Result<()> {
-    say(to, b"refused ")?;
-    say_number(to, size(returned) % 32)
+    write!(to, "refused {}", returned.unsigned_abs() % 32)
 }
 
 // The refusal's number, and the byte of the sheet.
 pub(crate) fn say_fault<W: Write>(to: &mut W, returned: i64) -> io::Result<()> {
-    say_refused(to, returned)?;
-    say(to, b" at ")?;
-    say_number(to, size(returned) / 32)
-}
-
-// How many zeros stand from a place on.
-fn zeros(area: &[i64], from: usize) -> usize {
-    let mut at = from;
-    while at < area.len() {
-        if area[at] != 0 {
-            return at - from;
-        }
-        at += 1;
-    }
-    at - from
-}
-
-fn say_numbers<W: Write>(to: &mut W, area: &[i64], count: usize) -> io::Result<()> {
-    let mut i: usize = 0;
-    while i < area.len() && i < count {
-        say(to, b" ")?;
-        say_signed(to, area[i])?;
-        i += 1;
-    }
-    Ok(())
+    let code = returned.unsigned_abs();
+    write!(to, "refused {} at {}", code % 32, code / 32)
 }
 
 // The answer's numbers, and how many zeros there are behind them.
 pub(crate) fn say_area<W: Write>(to: &mut W, area: &[i64], count: usize) -> io::Result<()> {
-    say_numbers(to, area, count)?;
-    say(to, b" and ")?;
-    say_number(to, zeros(area, count) as u64)?;
-    say(to, b" zeros")
+    let (numbers, rest) = area.split_at(count.min(area.len()));
+    for x in numbers {
+        write!(to, " {x}")?;
+    }
+    let zeros = rest.iter().take_while(|x| **x == 0).count();
+    write!(to, " and {zeros} zeros")
+}
+
+// Points, each as (x,y).
+pub(crate) fn say_points<W: Write>(to: &mut W, points: &[i64]) -> io::Result<()> {
+    for (passed, point) in points.chunks_exact(2).enumerate() {
+        if passed > 0 {
+            write!(to, " ")?;
+        }
+        write!(to, "({},{})", point[0], point[1])?;
+    }
+    Ok(())
 }

@@ -1,140 +1,97 @@
-// Which numbers a call takes, and the call itself. The calls are numbered by the table of names.
-ghost use Rattle.std.specs.Prelude.{◌≡◌, ◌≤◌, length};
+// The calls: their names, and what each takes.
+use std::fmt;
 
-use crate::runs::put_runs;
-use crate::{curves, sheets};
-use std::io;
-use std::io::Write;
-use whole::size;
-
-fn is_mission(x: i64) -> bool {
-    x >= 0 && x <= 65535
+// In the order in which they are told.
+#[derive(Clone, Copy, Debug, PartialEq, Eq)]
+pub(crate) enum Call {
+    Recognise,
+    Length,
+    Inflections,
+    Offset,
+    Build,
+    Joins,
+    Check,
+    Read,
+    Find,
+    Erase,
+    Append,
+    Root,
+    Parts,
+    Start,
 }
 
-// Whether a call takes so many numbers.
-pub(crate) fn suits(call: usize, n: &[i64], count: usize) -> bool
-    requires { length n.now ≡ 64 }
-{
-    match call {
-        1 | 2 | 3 => count == 8 || count == 12,
-        4 => count == 9 || count == 10 || count == 13 || count == 14,
-        5 => count == 6 || count == 8,
-        6 => count == 6 || count == 7,
-        7 | 10 | 13 => count % 2 == 0,
-        8 | 9 => count % 2 == 0 && count > 0 && is_mission(n[0]) && n[1] >= 0,
-        14 => count % 2 == 1 && is_mission(n[0]),
-        _ => count % 2 == 1 && (n[0] == 8 && count > 8 || n[0] == 12 && count > 12),
+// Written beside the enum: the language has no list of an enum's variants.
+pub(crate) const CALLS: [Call; 14] = [
+    Call::Recognise,
+    Call::Length,
+    Call::Inflections,
+    Call::Offset,
+    Call::Build,
+    Call::Joins,
+    Call::Check,
+    Call::Read,
+    Call::Find,
+    Call::Erase,
+    Call::Append,
+    Call::Root,
+    Call::Parts,
+    Call::Start,
+];
+
+impl Call {
+    // The call of this name.
+    pub(crate) fn named(name: &[u8]) -> Option<Call> {
+        CALLS
+            .iter()
+            .find(|call| call.usage().0.as_bytes() == name)
+            .copied()
+    }
+
+    // Its name, and what it takes.
+    fn usage(self) -> (&'static str, &'static str) {
+        match self {
+            Call::Recognise => ("recognise", "CURVE: 4 or 6 points, each as x y"),
+            Call::Length => ("length", "CURVE: 4 or 6 points, each as x y"),
+            Call::Inflections => ("inflections", "CURVE: 4 or 6 points, each as x y"),
+            Call::Offset => (
+                "offset",
+                "CURVE by H [in ROOM]: 4 or 6 points, each as x y, and a distance",
+            ),
+            Call::Build => (
+                "build",
+                "P0 from W0 W1 [W2]: a point and 2 or 3 pairs, each as x y",
+            ),
+            Call::Joins => (
+                "joins",
+                "A Z over T [in ROOM]: the first leg, the last leg and the travel, each as x y",
+            ),
+            Call::Check => (
+                "check",
+                "RUNS: a sheet by its runs of equal bytes, each as BYTE HOW-MANY",
+            ),
+            Call::Read => ("read", "MISSION NUMBER of RUNS: a curve of a sheet"),
+            Call::Find => (
+                "find",
+                "MISSION NUMBER of RUNS: the bytes of a curve of a sheet",
+            ),
+            Call::Erase => ("erase", "RUNS: a sheet"),
+            Call::Append => (
+                "append",
+                "C3 POINTS to RUNS, or append C5 POINTS to RUNS: 4 or 6 points, and a sheet",
+            ),
+            Call::Root => ("root", "N: a number from 0 to 18446744073709551615"),
+            Call::Parts => (
+                "parts",
+                "RUNS / RUNS / ...: a sheet that arrives by parts, each told by its runs, or empty",
+            ),
+            Call::Start => ("start", "MISSION on RUNS: a sheet"),
+        }
     }
 }
 
-fn on_points<W: Write>(to: &mut W, call: usize, points: &[i64]) -> io::Result<()> {
-    match call {
-        1 => curves::recognise(to, points),
-        2 => curves::length(to, points),
-        _ => curves::inflections(to, points),
-    }
-}
-
-fn on_curve<W: Write>(to: &mut W, call: usize, n: &[i64], count: usize) -> io::Result<()>
-    requires { length n.now ≡ 64 }
-{
-    if count == 8 {
-        on_points(to, call, &n[0..8])
-    } else {
-        on_points(to, call, &n[0..12])
-    }
-}
-
-// How many of a hundred numbers are lent.
-fn room(x: i64) -> usize
-    ensures { result ≤ 100 }
-{
-    let n = size(x);
-    if n > 100 {
-        return 100;
-    }
-    n as usize
-}
-
-// The room is the last number; without one it is what the longest answer takes.
-fn asked(n: &[i64], count: usize) -> i64
-    requires { length n.now ≡ 64 }
-{
-    match count {
-        6 => 24,
-        7 => n[6],
-        9 => 18,
-        10 => n[9],
-        13 => 30,
-        _ => n[13],
-    }
-}
-
-// Two legs and a travel, or a curve and a distance.
-fn in_area<W: Write>(to: &mut W, n: &[i64], count: usize, area: &mut [i64]) -> io::Result<()>
-    requires { length n.now ≡ 64 }
-{
-    match count {
-        6 | 7 => curves::joins(to, n, area),
-        9 | 10 => curves::offset(to, &n[0..8], n[8], area),
-        _ => curves::offset(to, &n[0..12], n[12], area),
-    }
-}
-
-fn lend<W: Write>(to: &mut W, n: &[i64], count: usize) -> io::Result<()>
-    requires { length n.now ≡ 64 }
-{
-    let mut space = [7i64; 100];
-    let lent = room(asked(n, count));
-    in_area(to, n, count, &mut space[..lent])
-}
-
-fn build<W: Write>(to: &mut W, n: &[i64], count: usize) -> io::Result<()>
-    requires { length n.now ≡ 64 }
-{
-    if count == 6 {
-        curves::build(to, n[0], n[1], &n[2..6])
-    } else {
-        curves::build(to, n[0], n[1], &n[2..8])
-    }
-}
-
-// Where the runs of a sheet begin among the numbers of a call: behind them all where it has no sheet.
-pub(crate) fn runs_from(call: usize, n: &[i64]) -> usize
-    requires { length n.now ≡ 64 }
-    ensures { result ≤ 64 }
-{
-    match call {
-        1 | 2 | 3 | 4 | 5 | 6 => 64,
-        7 | 10 | 13 => 0,
-        8 | 9 => 2,
-        14 => 1,
-        _ => { if n[0] == 8 { 9 } else { 13 } }
-    }
-}
-
-// Behind the numbers of a call there are zeros, and a run of no bytes is nothing.
-fn on_sheet<W: Write>(to: &mut W, call: usize, n: &[i64], area: &mut [u8]) -> io::Result<()>
-    requires { length n.now ≡ 64 }
-{
-    let from = runs_from(call, n);
-    let end = put_runs(area, &n[from..]);
-    sheets::ask(to, call, &n[0..from], &mut area[..end])
-}
-
-pub(crate) fn answer<W: Write>(
-    to: &mut W,
-    call: usize,
-    n: &[i64],
-    count: usize,
-    area: &mut [u8],
-) -> io::Result<()>
-    requires { length n.now ≡ 64 }
-{
-    match call {
-        1 | 2 | 3 => on_curve(to, call, n, count),
-        4 | 6 => lend(to, n, count),
-        5 => build(to, n, count),
-        _ => on_sheet(to, call, n, area),
+impl fmt::Display for Call {
+    fn fmt<W: fmt::Write>(&self, f: &mut fmt::Formatter<W>) -> fmt::Result {
+        let (name, takes) = self.usage();
+        write!(f, "{name} {takes}")
     }
 }

@@ -1,11 +1,8 @@
-// The calls on curves, and what each answers.
-ghost use Rattle.std.specs.Prelude.{◌≡◌, length};
-
-use crate::answers::{say_area, say_refused};
-use crate::words::{say, say_form};
+// The calls on curves, and what each answers. What a call returned is looked at in each, as C code does: they are asked through the C interface,
+// and each lends an area of another size, or numbers of its own. `as`, since From doesn't convert a u64 to a usize.
+use crate::answers::{say_area, say_points, say_refused};
 use std::io;
 use std::io::Write;
-use whole::size;
 
 pub(crate) fn recognise<W: Write>(to: &mut W, curve: &[i64]) -> io::Result<()> {
     let mut out = [0i64; 15];
@@ -13,15 +10,31 @@ pub(crate) fn recognise<W: Write>(to: &mut W, curve: &[i64]) -> io::Result<()> {
     if returned < 0 {
         return say_refused(to, returned);
     }
-    match out[0] {
-        0 => say(to, b"still"),
-        1 => say(to, b"no"),
-        2 => say_form(to, b"ph c=# q=# # # # #", &out[1..]),
-        _ => say_form(
-            to,
-            b"pre c=# q=# # # # # kappa=(#,#) w=(#,#) (#,#) (#,#)",
-            &out[1..],
-        ),
+    let [
+        verdict,
+        c,
+        q0,
+        q1,
+        q2,
+        q3,
+        q4,
+        k0,
+        k1,
+        u0,
+        v0,
+        u1,
+        v1,
+        u2,
+        v2,
+    ] = out;
+    match verdict {
+        0 => write!(to, "still"),
+        1 => write!(to, "no"),
+        2 => write!(to, "ph c={c} q={q0} {q1} {q2} {q3} {q4}"),
+        _ => {
+            write!(to, "pre c={c} q={q0} {q1} {q2} {q3} {q4} kappa=({k0},{k1})")?;
+            write!(to, " w=({u0},{v0}) ({u1},{v1}) ({u2},{v2})")
+        }
     }
 }
 
@@ -29,10 +42,10 @@ pub(crate) fn length<W: Write>(to: &mut W, curve: &[i64]) -> io::Result<()> {
     let mut out = [0i64; 3];
     let returned = curve_calls::length(curve, &mut out);
     if returned < 0 {
-        say_refused(to, returned)
-    } else {
-        say_form(to, b"c=# len=#/#", &out)
+        return say_refused(to, returned);
     }
+    let [c, over, under] = out;
+    write!(to, "c={c} len={over}/{under}")
 }
 
 pub(crate) fn inflections<W: Write>(to: &mut W, curve: &[i64]) -> io::Result<()> {
@@ -41,20 +54,17 @@ pub(crate) fn inflections<W: Write>(to: &mut W, curve: &[i64]) -> io::Result<()>
     if returned < 0 {
         return say_refused(to, returned);
     }
-    say_form(to, b"turning # # # count #", &out)?;
-    if out[4] != 0 {
-        say(to, b" straight")?;
+    let [t0, t1, t2, count, straight] = out;
+    write!(to, "turning {t0} {t1} {t2} count {count}")?;
+    if straight != 0 {
+        write!(to, " straight")?;
     }
     Ok(())
 }
 
-// Four points or six.
-pub(crate) fn say_points<W: Write>(to: &mut W, points: &[i64], count: i64) -> io::Result<()> {
-    if count == 8 {
-        say_form(to, b"(#,#) (#,#) (#,#) (#,#)", points)
-    } else {
-        say_form(to, b"(#,#) (#,#) (#,#) (#,#) (#,#) (#,#)", points)
-    }
+// Four points or six, as the call returned.
+pub(crate) fn say_curve<W: Write>(to: &mut W, out: &[i64; 12], returned: i64) -> io::Result<()> {
+    say_points(to, if returned == 8 { &out[..8] } else { &out[..] })
 }
 
 pub(crate) fn build<W: Write>(to: &mut W, x: i64, y: i64, w: &[i64]) -> io::Result<()> {
@@ -63,48 +73,43 @@ pub(crate) fn build<W: Write>(to: &mut W, x: i64, y: i64, w: &[i64]) -> io::Resu
     if returned < 0 {
         say_refused(to, returned)
     } else {
-        say_points(to, &out, returned)
+        say_curve(to, &out, returned)
     }
 }
 
-pub(crate) fn offset<W: Write>(
-    to: &mut W,
-    curve: &[i64],
-    h: i64,
-    area: &mut [i64],
-) -> io::Result<()> {
+// An area to lend: a hundred numbers at most, each 7.
+fn lend(space: &mut [i64; 100], room: i64) -> &mut [i64] {
+    let lent = room.unsigned_abs().min(100) as usize;
+    &mut space[..lent]
+}
+
+pub(crate) fn offset<W: Write>(to: &mut W, curve: &[i64], h: i64, room: i64) -> io::Result<()> {
+    let mut space = [7i64; 100];
+    let area = lend(&mut space, room);
     let returned = curve_calls::offset(curve, h, area);
     if returned < 0 {
         say_refused(to, returned)?;
         say_area(to, area, 0)
     } else {
-        say(to, b"written")?;
-        say_area(to, area, size(returned) as usize)
+        write!(to, "written")?;
+        say_area(to, area, returned.unsigned_abs() as usize)
     }
 }
 
-// Six numbers a join, and four joins at most.
-fn numbers_of(joins: i64) -> usize {
-    match joins {
-        0 => 0,
-        1 => 6,
-        2 => 12,
-        3 => 18,
-        _ => 24,
-    }
-}
-
-pub(crate) fn joins<W: Write>(to: &mut W, n: &[i64], area: &mut [i64]) -> io::Result<()>
-    requires { length n.now ≡ 64 }
-{
-    let returned = curve_calls::joins(n[0], n[1], n[2], n[3], n[4], n[5], area);
+pub(crate) fn joins<W: Write>(to: &mut W, given: [i64; 6], room: i64) -> io::Result<()> {
+    let mut space = [7i64; 100];
+    let area = lend(&mut space, room);
+    let [ax, ay, zx, zy, tx, ty] = given;
+    let returned = curve_calls::joins(ax, ay, zx, zy, tx, ty, area);
     if returned < 0 {
         say_refused(to, returned)?;
         return say_area(to, area, 0);
     }
-    say_form(to, b"# joins", &[returned])?;
+    write!(to, "{returned} joins")?;
     if returned > 0 {
-        say(to, b":")?;
+        write!(to, ":")?;
     }
-    say_area(to, area, numbers_of(returned))
+    // Six numbers a join, and four joins at most.
+    let joins = returned.unsigned_abs().min(4) as usize;
+    say_area(to, area, 6 * joins)
 }

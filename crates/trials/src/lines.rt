@@ -1,243 +1,191 @@
 // The lines: `LABEL: CALL ARGUMENTS`, or a call alone. Empty lines, and those that begin with #, are passed over.
-ghost use Rattle.std.specs.Prelude.{◌≡◌, ◌≤◌, length, IfOk};
+ghost use Rattle.std.specs.Prelude.{◌≡◌, IfOk};
 
-use crate::calls::{answer, runs_from, suits};
-use crate::names::look_up;
+use crate::calls::{CALLS, Call};
 use crate::numbers::arguments;
+use crate::questions::Question;
 use crate::roots::root;
 use crate::runs::{no_byte, put_runs};
 use crate::sheets::say_checked;
-use crate::words::{say, say_number};
-use reading::{Size, Sought, find, size_in};
+use crate::{curves, sheets};
+use reading::{Lines, Sought, Words, find, size_in};
 use std::io;
 use std::io::Write;
 
-fn say_error<W: Write>(to: &mut W, line: usize, column: usize, why: &[u8]) -> io::Result<()> {
-    say(to, b"error at line ")?;
-    say_number(to, line as u64)?;
-    say(to, b", column ")?;
-    say_number(to, column as u64)?;
-    say(to, b": ")?;
-    say(to, why)
+// Why a call has no answer: it takes other numbers, something is wrong at a column of the line, or what it answers could not be written.
+#[derive(Debug, Drop)]
+enum NoAnswer {
+    Unfit,
+    Wrong(usize, &'static str),
+    Output(io::Error),
 }
 
-// Whether a place is before the text's end: there stands something wrong then.
-fn say_wrong<W: Write>(
-    to: &mut W,
-    text: &[u8],
-    place: usize,
-    line: usize,
-    why: &[u8],
-) -> io::Result<bool> {
-    if place < text.len() {
-        say_error(to, line, place + 1, why)?;
-        return Ok(true);
+impl From<io::Error> for NoAnswer {
+    fn from(error: io::Error) -> NoAnswer {
+        NoAnswer::Output(error)
     }
-    Ok(false)
 }
 
-// The root of the one word from a place on, which is a number of any 64 bits; false where there is no such word, or another behind it.
-fn ask_root<W: Write>(to: &mut W, text: &[u8], from: usize, line: usize) -> io::Result<bool>
-    requires { from ≤ length text.now }
-{
-    let start = find(text, from, Sought::Word);
-    let end = find(text, start, Sought::Gap);
-    if start == end || find(text, end, Sought::Word) < text.len() {
-        return Ok(false);
-    }
-    let Size::Of(n) = size_in(&text[start..end]) else {
-        say_error(
-            to,
-            line,
-            start + 1,
-            b"not a number from 0 to 18446744073709551615",
-        )?;
-        return Ok(true);
+fn say_error<W: Write>(to: &mut W, line: usize, column: usize, why: &str) -> io::Result<()> {
+    write!(to, "error at line {line}, column {column}: {why}")
+}
+
+// The root of the one word that is left, which is a number of any 64 bits.
+fn ask_root<W: Write>(to: &mut W, mut words: Words) -> Result<(), NoAnswer> {
+    let (Some(word), None) = (words.next(), words.next()) else {
+        return Err(NoAnswer::Unfit);
+    };
+    let Ok(n) = size_in(word.bytes) else {
+        return Err(NoAnswer::Wrong(
+            word.place + 1,
+            "not a number from 0 to 18446744073709551615",
+        ));
     };
     root(to, n)?;
-    Ok(true)
-}
-
-// What the numbers of a call are: fit for it, so many; not those that it takes; or one is wrong, which is said then.
-#[derive(Clone, Copy)]
-enum Taken {
-    Fit(usize),
-    Unfit,
-    Wrong,
-}
-
-// Takes the numbers of a call from a place on.
-fn take<W: Write>(
-    to: &mut W,
-    named: usize,
-    text: &[u8],
-    from: usize,
-    line: usize,
-    n: &mut [i64],
-) -> io::Result<Taken>
-    requires from_in_bounds { from ≤ length text.now }
-    requires n_len { length n.old ≡ 64 }
-    ensures { length n.new ≡ 64 }
-{
-    let found = arguments(text, from, n);
-    let count = found.count;
-    if say_wrong(
-        to,
-        text,
-        found.wrong,
-        line,
-        b"neither a number nor a word of a call",
-    )? {
-        return Ok(Taken::Wrong);
-    }
-    if !suits(named, n, count) {
-        return Ok(Taken::Unfit);
-    }
-    let bad = no_byte(n, runs_from(named, n));
-    if bad < n.len() {
-        // With room for the numbers before it alone, it is the first that is wrong.
-        let found = arguments(text, from, &mut n[0..bad]);
-        say_wrong(
-            to,
-            text,
-            found.wrong,
-            line,
-            b"a byte is a number from 0 to 255",
-        )?;
-        return Ok(Taken::Wrong);
-    }
-    Ok(Taken::Fit(count))
-}
-
-// The sheet whose parts stand from a place on, with / between them; false where a part is no list of runs.
-fn ask_parts<W: Write>(
-    to: &mut W,
-    named: usize,
-    text: &[u8],
-    from: usize,
-    line: usize,
-    area: &mut [u8],
-) -> io::Result<bool>
-    requires { from ≤ length text.now }
-{
-    let mut state = [0i64; 13];
-    parts_calls::start(&mut state);
-    let mut at = from;
-    // The last part may be empty, and so stand at the text's end.
-    while at <= text.len() {
-        let end = find(text, at, Sought::Byte(b'/'));
-        // Zeros anew: a part may have fewer numbers than the one before.
-        let mut n = [0i64; 64];
-        match take(to, named, &text[0..end], at, line, &mut n)? {
-            Taken::Fit(_) => {
-                // A part is cut where the area ends, which is too long for a sheet all the same.
-                let most = put_runs(area, &n);
-                parts_calls::feed(&mut state, &area[..most]);
-            }
-            Taken::Unfit => return Ok(false),
-            Taken::Wrong => return Ok(true),
-        }
-        at = end + 1;
-    }
-    say_checked(to, parts_calls::end(&mut state))?;
-    Ok(true)
-}
-
-// The call that is named, with the numbers from a place on; false where there is none, or it takes other numbers.
-fn ask<W: Write>(
-    to: &mut W,
-    named: usize,
-    text: &[u8],
-    from: usize,
-    line: usize,
-    n: &mut [i64],
-    area: &mut [u8],
-) -> io::Result<bool>
-    requires from_in_bounds { from ≤ length text.now }
-    requires n_len { length n.old ≡ 64 }
-{
-    match named {
-        0 => return Ok(false),
-        12 => return ask_root(to, text, from, line),
-        13 => return ask_parts(to, named, text, from, line, area),
-        _ => (),
-    }
-    match take(to, named, text, from, line, n)? {
-        Taken::Fit(count) => answer(to, named, n, count, area)?,
-        Taken::Unfit => return Ok(false),
-        Taken::Wrong => (),
-    }
-    Ok(true)
-}
-
-// The call that begins at a place.
-fn call<W: Write>(
-    to: &mut W,
-    text: &[u8],
-    from: usize,
-    line: usize,
-    area: &mut [u8],
-) -> io::Result<()>
-    requires { from ≤ length text.now }
-{
-    let start = find(text, from, Sought::Word);
-    if start == text.len() {
-        return say_error(to, line, start, b"a label without a call");
-    }
-    let end = find(text, start, Sought::Gap);
-    let named = look_up(to, &text[start..end], false)?;
-    let mut n = [0i64; 64];
-    if ask(to, named, text, end, line, &mut n, area)? {
-        return Ok(());
-    }
-    if named == 0 {
-        say_error(
-            to,
-            line,
-            start + 1,
-            b"no call has this name; the calls are\n",
-        )?;
-    } else {
-        say_error(to, line, start + 1, b"usage: ")?;
-    }
-    look_up(to, &text[start..end], true)?;
     Ok(())
 }
 
-// Writes the label, if there is one; where the call begins.
-fn pass_label<W: Write>(to: &mut W, text: &[u8]) -> io::Result<usize>
-    ensures { IfOk result (λ from. from ≤ length text.now) }
+// The call with the numbers that are left, which are written to an area first.
+fn question<'a>(call: Call, words: Words, n: &'a mut [i64; 64]) -> Result<Question<'a>, NoAnswer> {
+    let count = arguments(words, n).map_err(|column| NoAnswer::Wrong(
+        column,
+        "neither a number nor a word of a call",
+    ))?;
+    let given = &n[..count];
+    let Some(question) = call.with(given) else {
+        return Err(NoAnswer::Unfit);
+    };
+    let runs = question.runs();
+    let Some(bad) = no_byte(runs) else {
+        return Ok(question);
+    };
+    // With room for the numbers before it alone, it is the first that is wrong. The runs are the last numbers.
+    let mut space = [0i64; 64];
+    let left = runs.len().saturating_sub(bad);
+    let before = count.saturating_sub(left);
+    arguments(words, &mut space[..before]).map_err(|column| NoAnswer::Wrong(
+        column,
+        "a byte is a number from 0 to 255",
+    ))?;
+    Ok(question)
+}
+
+// The sheet whose parts are left of the text, with / between them.
+fn ask_parts<W: Write>(to: &mut W, words: Words, area: &mut [u8]) -> Result<(), NoAnswer> {
+    let mut state = [0i64; 13];
+    parts_calls::start(&mut state);
+    let Words { text, mut at } = words;
+    // By hand: a column that is told counts from the line's first byte, and `split` gives the parts without where they begin, so that this would
+    // be counted beside it all the same. The last part may be empty, and so stand at the text's end.
+    while at <= text.len() {
+        let end = find(text, at, Sought::Byte(b'/'));
+        let mut n = [0i64; 64];
+        let part = Words {
+            text: &text[..end],
+            at,
+        };
+        let asked = question(Call::Parts, part, &mut n)?;
+        // A part is cut where the area ends, which is too long for a sheet all the same.
+        let most = put_runs(area, asked.runs());
+        parts_calls::feed(&mut state, &area[..most]);
+        at = end + 1;
+    }
+    say_checked(to, parts_calls::end(&mut state))?;
+    Ok(())
+}
+
+// Asks it, and writes what it answers. The area is what its sheet is made in.
+fn answer<W: Write>(to: &mut W, question: Question, area: &mut [u8]) -> io::Result<()> {
+    let end = put_runs(area, question.runs());
+    let sheet = &mut area[..end];
+    match question {
+        Question::Recognise(curve) => curves::recognise(to, curve),
+        Question::Length(curve) => curves::length(to, curve),
+        Question::Inflections(curve) => curves::inflections(to, curve),
+        Question::Offset(curve, h, room) => curves::offset(to, curve, h, room),
+        Question::Build(x, y, w) => curves::build(to, x, y, w),
+        Question::Joins(given, room) => curves::joins(to, given, room),
+        Question::Check(_) => sheets::check(to, sheet),
+        Question::Erase(_) => sheets::erase(to, sheet),
+        Question::Start(mission, _) => sheets::start(to, sheet, mission),
+        Question::Read(mission, number, _) => sheets::read(to, sheet, mission, number),
+        Question::Find(mission, number, _) => sheets::find(to, sheet, mission, number),
+        Question::Append(points, _) => sheets::append(to, sheet, points),
+    }
+}
+
+// The call, with the numbers that are left.
+fn ask<W: Write>(to: &mut W, call: Call, words: Words, area: &mut [u8]) -> Result<(), NoAnswer> {
+    match call {
+        Call::Root => ask_root(to, words),
+        Call::Parts => ask_parts(to, words, area),
+        _ => {
+            let mut n = [0i64; 64];
+            let question = question(call, words, &mut n)?;
+            answer(to, question, area)?;
+            Ok(())
+        }
+    }
+}
+
+// Every call's line.
+fn say_calls<W: Write>(to: &mut W) -> io::Result<()> {
+    for call in &CALLS {
+        write!(to, "\n{call}")?;
+    }
+    Ok(())
+}
+
+// The call whose name is the first word that is left.
+fn call<W: Write>(to: &mut W, mut words: Words, line: usize, area: &mut [u8]) -> io::Result<()> {
+    let Some(name) = words.next() else {
+        return say_error(to, line, words.text.len(), "a label without a call");
+    };
+    let column = name.place + 1;
+    let Some(named) = Call::named(name.bytes) else {
+        say_error(to, line, column, "no call has this name; the calls are")?;
+        return say_calls(to);
+    };
+    match ask(to, named, words, area) {
+        Ok(()) => Ok(()),
+        Err(NoAnswer::Unfit) => {
+            say_error(to, line, column, "usage: ")?;
+            write!(to, "{named}")
+        }
+        Err(NoAnswer::Wrong(column, why)) => say_error(to, line, column, why),
+        Err(NoAnswer::Output(error)) => Err(error),
+    }
+}
+
+// Writes the label, if there is one; the words behind it.
+fn pass_label<'a, W: Write>(to: &mut W, text: &'a [u8]) -> io::Result<Words<'a>>
+    ensures { IfOk result (λ words. words.text ≡ text.entry) }
 {
     let colon = find(text, 0, Sought::Byte(b':'));
     if colon == text.len() {
-        return Ok(0);
+        return Ok(Words::of(text));
     }
-    say(to, &text[0..colon])?;
-    say(to, b": ")?;
-    Ok(colon + 1)
+    to.write_all(&text[..colon])?;
+    write!(to, ": ")?;
+    Ok(Words {
+        text,
+        at: colon + 1,
+    })
 }
 
 fn answer_line<W: Write>(to: &mut W, text: &[u8], line: usize, area: &mut [u8]) -> io::Result<()> {
-    if text.len() == 0 {
+    if matches!(text, [] | [b'#', ..]) {
         return Ok(());
     }
-    if text[0] == b'#' {
-        return Ok(());
-    }
-    let from = pass_label(to, text)?;
-    call(to, text, from, line, area)?;
-    say(to, b"\n")
+    let words = pass_label(to, text)?;
+    call(to, words, line, area)?;
+    writeln!(to)
 }
 
 // The area is what the sheets are made in.
 pub(crate) fn all<W: Write>(to: &mut W, text: &[u8], area: &mut [u8]) -> io::Result<()> {
-    let mut at: usize = 0;
-    let mut number: usize = 1;
-    while at < text.len() {
-        let end = find(text, at, Sought::Byte(b'\n'));
-        answer_line(to, &text[at..end], number, area)?;
-        at = end + 1;
-        number += 1;
+    for (passed, line) in Lines::of(text).enumerate() {
+        answer_line(to, line, passed + 1, area)?;
     }
     Ok(())
 }

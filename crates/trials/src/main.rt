@@ -6,13 +6,11 @@ mod answers;
 mod calls;
 mod curves;
 mod lines;
-mod names;
 mod numbers;
-mod places;
+mod questions;
 mod roots;
 mod runs;
 mod sheets;
-mod words;
 
 ghost use Rattle.std.specs.Prelude.{◌<◌, length};
 ghost use Rattle.record.specs.Records.{longest};
@@ -21,7 +19,6 @@ use record::LONGEST;
 use std::io;
 use std::io::{Read, Write};
 use streams::read_full;
-use words::say;
 
 // A text that fills its area may go on behind it. The other area is what sheets are made in: one byte too many is told from a sheet.
 fn answer_input<R: Read, W: Write>(
@@ -34,7 +31,7 @@ fn answer_input<R: Read, W: Write>(
 {
     let read = read_full(input, text)?;
     if read == text.len() {
-        say(output, b"error: the text has more than 65,535 bytes\n")
+        writeln!(output, "error: the text has more than 65,535 bytes")
     } else {
         lines::all(output, &text[..read], area)
     }

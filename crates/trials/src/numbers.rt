@@ -1,65 +1,34 @@
 // The arguments of a call: whole numbers, with blanks, brackets, commas and small words between them.
-ghost use Rattle.std.specs.Prelude.{◌≡◌, ◌≤◌, length};
+ghost use Rattle.std.specs.Prelude.{◌≤◌, length, IfOk};
 
-use crate::places::row_of;
-use reading::{Number, Sought, find, number_in};
+use reading::{NoNumber, Words, number_in};
 
-// What a word is worth: a number, nothing (it only joins numbers), or it is no word of a call.
-#[derive(Clone, Copy)]
-enum Worth {
-    Number(i64),
-    Nothing,
-    Unknown,
-}
-
-// So many numbers, and where the first word is that belongs to no call: the text's end, if there is none.
-#[derive(Clone, Copy)]
-pub(crate) struct Found {
-    pub count: usize,
-    pub wrong: usize,
-}
-
-fn number(word: &[u8]) -> Worth {
-    match number_in(word) {
-        Number::Of(x) => Worth::Number(x),
-        Number::TooLarge => Worth::Unknown,
-        Number::None => Worth::Unknown,
+// What a word is worth. A kind stands for how many coordinates it has; the other words only join numbers.
+fn worth_of(word: &[u8]) -> Result<Option<i64>, NoNumber> {
+    match word {
+        b"C3" => Ok(Some(8)),
+        b"C5" => Ok(Some(12)),
+        b"by" | b"in" | b"from" | b"over" | b"of" | b"to" | b"on" => Ok(None),
+        _ => Ok(Some(number_in(word)?)),
     }
 }
 
-// A kind stands for how many coordinates it has; the other words only join numbers.
-fn worth_of(word: &[u8]) -> Worth {
-    let words = b"C3 POINTS\nC5 POINTS\nby H\nin ROOM\nfrom W0\nover T\nof RUNS\nto RUNS\non RUNS";
-    let known = row_of(words, word).number;
-    match known {
-        0 => number(word),
-        1 => Worth::Number(8),
-        2 => Worth::Number(12),
-        _ => Worth::Nothing,
-    }
-}
-
-// Writes the numbers of a text from a place on. There is room for 64.
-pub(crate) fn arguments(text: &[u8], from: usize, out: &mut [i64]) -> Found
-    requires { from ≤ length text.now }
-    ensures { length out.new ≡ length out.old }
+// Writes the numbers that are left of a text, as far as there is room; how many they are, or the column of the first word that belongs to no call.
+pub(crate) fn arguments(words: Words, out: &mut [i64]) -> Result<usize, usize>
+    ensures { IfOk result (λ count. count ≤ length out.new) }
 {
+    // Counted by hand: words that only join numbers take no room, so a number's place is not its word's. The loop is not make_sheet's take_numbers:
+    // that knows no such words, and tells a number too many or too few from what is none; one function for both would take three closures.
     let mut count: usize = 0;
-    let mut at = find(text, from, Sought::Word);
-    while at < text.len() {
-        let end = find(text, at + 1, Sought::Gap);
-        match worth_of(&text[at..end]) {
-            Worth::Number(x) => {
-                if count >= out.len() {
-                    return Found { count, wrong: at };
-                }
+    for word in words {
+        match worth_of(word.bytes) {
+            Ok(Some(x)) if count < out.len() => {
                 out[count] = x;
                 count += 1;
             }
-            Worth::Nothing => (),
-            Worth::Unknown => return Found { count, wrong: at },
+            Ok(None) => (),
+            _ => return Err(word.place + 1),
         }
-        at = find(text, end, Sought::Word);
     }
-    Found { count, wrong: at }
+    Ok(count)
 }

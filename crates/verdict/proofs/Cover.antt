@@ -11,6 +11,8 @@ use native.Mathlib.Omega.{arith}
 use lib.IntN.{ℤ, pos, nat_abs, ℤ_discrete}
 use lib.ListN.{length}
 use lib.Signed.{◌<ℤ◌}
+use Rattle.std.specs.Prelude.{Result, Ok, Err}
+use Rattle.refusal.specs.declared.Refusal.{Refusal}
 use Rattle.refusal.specs.declared.Refusal.TheVariants as R
 use Rattle.whole.specs.Coefficients.{at, Greatest}
 use Rattle.poly.specs.Polynomials.{scaled, square}
@@ -139,9 +141,9 @@ module _ (ps : List Pair) (r : InRange ps) (l : length ps ≤ 6) where
       by (yes z) = (verdict.Still, z)
       by (no some) = moving some
 
-pub recognised_found : (curve : Curve) → (v : Verdict) × Recognised (points_of curve) v
+pub recognised_found : (curve : Curve) → (r : Result Verdict Refusal) × Recognised (points_of curve) r
 recognised_found curve = by (in-range? (points_of curve))
   where
-    by : Dec (InRange (points_of curve)) → (v : Verdict) × Recognised (points_of curve) v
-    by (yes i) = let (v, h) = verdict_found (points_of curve) i (points_of_length curve) in (v, recognised_by (points_of curve) i v h)
-    by (no out) = (verdict.Refused R.Range, (inl (out, refl), refl))
+    by : Dec (InRange (points_of curve)) → (r : Result Verdict Refusal) × Recognised (points_of curve) r
+    by (yes i) = let (v, h) = verdict_found (points_of curve) i (points_of_length curve) in (Ok v, recognised_by (points_of curve) i v h)
+    by (no out) = (Err R.Range, (inl (out, refl), refl))

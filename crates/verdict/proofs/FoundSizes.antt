@@ -9,6 +9,7 @@ use mathlib.Core.Logic.Dec
 use Prim.Native.Nat.{◌≤◌}
 use native.Mathlib.Decide.{map_dec}
 use lib.ListN.{length}
+use Rattle.std.specs.Prelude.{Ok}
 use Rattle.refusal.proofs.Laws.{NoneHolds, first-none}
 use Rattle.whole.specs.Number.{wholes}
 use Rattle.poly.proofs.Deciding.{within?}
@@ -19,7 +20,6 @@ use Rattle.root.specs.Promise.{quartic, Small}
 use Rattle.curve.specs.Sizes.{coordinate_reach}
 use Rattle.curve.specs.Curves.{InRange, leg_polynomial}
 use Rattle.verdict.specs.declared.Preimage.{Preimage}
-use Rattle.verdict.specs.declared.PreimageAnswer.TheVariants.{Found}
 use Rattle.verdict.specs.Verdicts.{PreimageOf, quadratic}
 use Rattle.verdict.specs.Promise.{preimage_causes, Preimaged}
 use Rattle.verdict.proofs.RootSizes.{root-within, preimage_within}
@@ -31,7 +31,7 @@ in-range? (p ∷ ps) = Dec.and (map_dec (λ (x, y). record { re = x; im = y }) (
 pub range_stable : (ps : List Pair) → ((InRange ps → ⊥) → ⊥) → InRange ps
 range_stable ps = (Dec.not-not (in-range? ps)).0
 
-module _ (ps : List Pair) (p : Preimage) (h : Preimaged ps (Found p)) where
+module _ (ps : List Pair) (p : Preimage) (h : Preimaged ps (Ok p)) where
   passed : NoneHolds (preimage_causes ps)
   passed = first-none (preimage_causes ps) h.0
 

@@ -89,7 +89,6 @@ module _ (D E : List Pair) (e : Same pairs D E) where
       square_of = square-same p.square h.1.square_of;
     },
   )
-  holds_same (verdict.Refused r) h = h
 
 module _ (D : List Pair) (o : OfCurve D) where
   pub pairs_slight : (k : ℕ) → PartsWithin 1280000 (at pairs D k)

@@ -28,4 +28,5 @@ pub mod Quintics
 pub mod ByRoot
 pub mod RulesMet
 pub mod Decided
+pub mod Equal
 pub mod Known

@@ -12,8 +12,10 @@ use mathlib.Core.List.{List, [], ◌∷◌}
 use mathlib.Core.Logic.{◌≢◌}
 use lib.IntN.{ℤ, pos, negsuc}
 use lib.Signed.{◌<ℤ◌}
-use Rattle.refusal.specs.Answers.{Answer, refused, given}
-use Rattle.refusal.proofs.Answers.{refuse_once, first_or_once}
+use Rattle.std.specs.Prelude.{Result}
+use Rattle.refusal.specs.declared.Refusal.{Refusal}
+use Rattle.refusal.specs.Answers.{answer_of}
+use Rattle.refusal.proofs.Answers.{answer_once, first_or_once}
 use Rattle.whole.specs.Coefficients.{at}
 use Rattle.poly.specs.Polynomials.{Same, scaled, square}
 use Rattle.whole.specs.Number.{wholes, FirstPositive}
@@ -43,9 +45,7 @@ use Rattle.verdict.specs.declared.Preimage.{Preimage}
 use Rattle.verdict.specs.declared.Verdict.{Verdict}
 use Rattle.verdict.specs.declared.Verdict.TheVariants as verdict
 use Rattle.verdict.specs.Verdicts.{Generated, Coprime, SquareOf, PreimageOf, WithPreimage, Holds, quadratic, LeadKept}
-use Rattle.verdict.specs.declared.PreimageAnswer.{PreimageAnswer}
-use Rattle.verdict.specs.declared.PreimageAnswer.TheVariants.{Found, Refused}
-use Rattle.verdict.specs.Promise.{answer_of_verdict, answer_of_preimage, preimage_causes, Recognised, Preimaged}
+use Rattle.verdict.specs.Promise.{preimage_causes, Recognised, Preimaged}
 use Rattle.verdict.proofs.Coprime.{by_unit, coprime_primitive}
 use Rattle.verdict.proofs.Multiples.{generated-squared}
 use Rattle.verdict.proofs.Norms.{generated-content}
@@ -143,51 +143,26 @@ verdict_once D verdict.Still verdict.Still h k = refl
 verdict_once D verdict.Still verdict.No h k = absurd (k.0 h)
 verdict_once D verdict.Still (verdict.Ph s) h k = absurd (k.0 h)
 verdict_once D verdict.Still (verdict.Pre p) h k = absurd (k.0 h)
-verdict_once D verdict.Still (verdict.Refused _) h k = elim k [ ]
 verdict_once D verdict.No verdict.Still h k = absurd (h.0 k)
 verdict_once D verdict.No verdict.No h k = refl
 verdict_once D verdict.No (verdict.Ph s) h k = absurd (h.1 s.c (quartic s.q) k.1.positive k.1.squared)
 verdict_once D verdict.No (verdict.Pre p) h k =
     absurd (h.1 p.square.c (quartic p.square.q) k.1.square_of.positive k.1.square_of.squared)
-verdict_once D verdict.No (verdict.Refused _) h k = elim k [ ]
 verdict_once D (verdict.Ph s) verdict.Still h k = absurd (h.0 k)
 verdict_once D (verdict.Ph s) verdict.No h k = absurd (k.1 s.c (quartic s.q) h.1.positive h.1.squared)
 verdict_once D (verdict.Ph s) (verdict.Ph t) h k = ap verdict.Ph (square_once D s t h.1 k.1)
 verdict_once D (verdict.Ph s) (verdict.Pre p) h k = absurd (h.2 p.kappa (quadratic p.w) k.1.generated)
-verdict_once D (verdict.Ph s) (verdict.Refused _) h k = elim k [ ]
 verdict_once D (verdict.Pre p) verdict.Still h k = absurd (h.0 k)
 verdict_once D (verdict.Pre p) verdict.No h k =
     absurd (k.1 p.square.c (quartic p.square.q) h.1.square_of.positive h.1.square_of.squared)
 verdict_once D (verdict.Pre p) (verdict.Ph s) h k = absurd (k.2 p.kappa (quadratic p.w) h.1.generated)
 verdict_once D (verdict.Pre p) (verdict.Pre p') h k = ap verdict.Pre (preimage_once D p p' h.1 k.1)
-verdict_once D (verdict.Pre p) (verdict.Refused _) h k = elim k [ ]
-verdict_once D (verdict.Refused _) _ h k = elim h [ ]
 
 -- ---- promises
--- a verdict, from what it answers
-verdict_of : Answer Verdict → Verdict
-verdict_of (refused f) = verdict.Refused f.refusal
-verdict_of (given v) = v
+pub recognised_once : (ps : List Pair) (r s : Result Verdict Refusal) → Recognised ps r → Recognised ps s → r ≡ s
+recognised_once ps r s h k =
+    answer_once r s (first_or_once (out_of_range ps ∷ []) (Holds (leg_polynomial ps)) (verdict_once (leg_polynomial ps)) (answer_of r) (answer_of s) h k)
 
-answered : (v : Verdict) → verdict_of (answer_of_verdict v) ≡ v
-unfolding verdict_of
-answered verdict.Still = refl
-answered verdict.No = refl
-answered (verdict.Ph s) = refl
-answered (verdict.Pre p) = refl
-answered (verdict.Refused r) = refl
-
-pub recognised_once : (ps : List Pair) (v v' : Verdict) → Recognised ps v → Recognised ps v' → v ≡ v'
-recognised_once ps v v' h k =
-    let e = first_or_once (out_of_range ps ∷ []) (Holds (leg_polynomial ps)) (verdict_once (leg_polynomial ps)) (answer_of_verdict v) (answer_of_verdict v') h k in
-    sym (answered v) ∙ ap verdict_of e ∙ answered v'
-
-answer_once : (r s : PreimageAnswer) → answer_of_preimage r ≡ answer_of_preimage s → r ≡ s
-answer_once (Found p) (Found q) e = cc
-answer_once (Found p) (Refused t) e = cc
-answer_once (Refused r) (Found q) e = cc
-answer_once (Refused r) (Refused t) e = ap Refused (refuse_once Preimage e)
-
-pub preimaged_once : (ps : List Pair) (r s : PreimageAnswer) → Preimaged ps r → Preimaged ps s → r ≡ s
+pub preimaged_once : (ps : List Pair) (r s : Result Preimage Refusal) → Preimaged ps r → Preimaged ps s → r ≡ s
 preimaged_once ps r s h k =
-    answer_once r s (first_or_once (preimage_causes ps) (PreimageOf (leg_polynomial ps)) (preimage_once (leg_polynomial ps)) (answer_of_preimage r) (answer_of_preimage s) h k)
+    answer_once r s (first_or_once (preimage_causes ps) (PreimageOf (leg_polynomial ps)) (preimage_once (leg_polynomial ps)) (answer_of r) (answer_of s) h k)

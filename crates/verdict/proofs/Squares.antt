@@ -7,6 +7,7 @@ use lib.IntN.{ℤ, pos}
 use lib.Signed.{◌<ℤ◌}
 use Rattle.poly.specs.Polynomials.{Same, scaled, square}
 use Rattle.whole.specs.Coefficients.{Greatest}
+use Rattle.std.specs.Prelude.{Some}
 use Rattle.whole.specs.Number.{wholes}
 use Rattle.whole.proofs.Wholes.{wholes_ring}
 use Rattle.poly.proofs.Lists.{scaled-same}
@@ -14,7 +15,6 @@ use Rattle.poly.proofs.Wholes.{whole-square}
 use Rattle.pair.specs.declared.Pair.{Pair}
 use Rattle.root.specs.declared.Quartic.{Quartic}
 use Rattle.root.specs.Search.{Each}
-use Rattle.root.specs.declared.WholeRoot.TheVariants.{Root}
 use Rattle.root.specs.Promise.{quartic, IsWholeRoot, Small}
 use Rattle.curve.specs.Curves.{norm_polynomial}
 use Rattle.verdict.specs.Verdicts.{Squared, NotSquared, SquareOf}
@@ -30,5 +30,5 @@ module _ (D : List Pair) (c : ℤ) (M : List ℤ) (h : pos 0 <ℤ c) (g : Greate
       let i : Same wholes (square wholes r.root) M = λ k. sym (r.squared k) in
       none r.root (small r.root (root-squared r.root i)) i
 
-  pub root-square_of : (q : Quartic) → IsWholeRoot M (Root q) → SquareOf D (record { c = c; q = q })
+  pub root-square_of : (q : Quartic) → IsWholeRoot M (Some q) → SquareOf D (record { c = c; q = q })
   root-square_of q r = record { positive = h; squared = root-squared (quartic q) r.squared; content = g; lead = r.lead }

@@ -1,7 +1,9 @@
 -- The steps of recognition: what each part of it computes.
 --   OfCurve D, OfLegs ds       D is that of a curve in range; ds are its legs
+--   reversed                   the legs in the other order
 --   FirstEnd, LastEnd          the first, and the last leg's norm divides as that of a Pythagorean curve does
 --   IsHighest                  the highest power of a polynomial, or that it is 0
+--   ArePartsBy R D q           each of q is one that R gives for the coefficient of D beside it
 --   Shared e d v1 v2           e divides d, v1 and v2, and d divides e²
 --   Over e d v1 v2 s           w is d + v1 t + v2 t² divided by e, and d κ is e²
 --   Generates D s              D = κ w² with a coprime w
@@ -11,7 +13,7 @@
 --   MeetsRule, ByMiddle        m meets it with some legs; κ and w for all legs with which it does
 --   Signed w v                 v is w or −w, with the sign of the rule
 --   Normalised κ w p           p is κ w², with the signs of the rules
-use Rattle.std.specs.Prelude.{◌≡◌, List, [], ◌∷◌, ◌≢◌, ℕ, ◌^◌, ◌≤◌, pos, length}
+use Rattle.std.specs.Prelude.{◌≡◌, List, [], ◌∷◌, ◌≢◌, Option, Some, None, ℕ, ℤ, ◌^◌, ◌≤◌, pos, length}
 use Rattle.whole.specs.Number.{FirstPositive}
 use Rattle.poly.specs.Polynomials.{Same, scaled}
 use Rattle.whole.specs.Coefficients.{Divides}
@@ -23,13 +25,7 @@ use Rattle.curve.specs.declared.Legs.{Legs}
 use Rattle.curve.specs.declared.Legs.TheVariants.{Cubic, Quintic}
 use Rattle.curve.specs.Curves.{InRange, leg_polynomial}
 use Rattle.curve.specs.Sizes.{leg_reach}
-use Rattle.verdict.specs.declared.Highest.{Highest}
-use Rattle.verdict.specs.declared.Highest.TheVariants.{Power, Zero}
 use Rattle.verdict.specs.declared.rules.Generator.{Generator}
-use Rattle.verdict.specs.declared.rules.Generation.{Generation}
-use Rattle.verdict.specs.declared.rules.Generation.TheVariants as generation
-use Rattle.verdict.specs.declared.rules.Middle.{Middle}
-use Rattle.verdict.specs.declared.rules.Middle.TheVariants as middle
 use Rattle.verdict.specs.declared.Preimage.{Preimage}
 use Rattle.verdict.specs.Verdicts.{Generated, NotGenerated, Coprime, quadratic, LeadKept}
 use Rattle.verdict.specs.Rules.{EndDivides, QuinticRule}
@@ -50,13 +46,22 @@ abbrev pub FirstEnd : Legs → Type 0
 FirstEnd (Cubic d0 d1 d2) = EndDivides (pos 2) d0 d1
 FirstEnd (Quintic d0 d1 d2 d3 d4) = EndDivides (pos 8) d0 d1
 
-abbrev pub LastEnd : Legs → Type 0
-LastEnd (Cubic d0 d1 d2) = EndDivides (pos 2) d2 d1
-LastEnd (Quintic d0 d1 d2 d3 d4) = EndDivides (pos 8) d4 d3
+abbrev pub reversed : Legs → Legs
+reversed (Cubic d0 d1 d2) = Cubic d2 d1 d0
+reversed (Quintic d0 d1 d2 d3 d4) = Quintic d4 d3 d2 d1 d0
 
-abbrev pub IsHighest : List Pair → Highest → Type 0
-IsHighest D (Power k) = Top pairs D k × (k ≤ 4)
-IsHighest D Zero = Same pairs D []
+abbrev pub LastEnd : Legs → Type 0
+LastEnd l = FirstEnd (reversed l)
+
+abbrev pub IsHighest : List Pair → Option ℕ → Type 0
+IsHighest D (Some k) = Top pairs D k × (k ≤ 4)
+IsHighest D None = Same pairs D []
+
+abbrev pub ArePartsBy : (Pair → ℤ → Type 0) → List Pair → List ℤ → Type 0
+ArePartsBy R [] [] = Unit {0}
+ArePartsBy R [] (x ∷ q) = ⊥
+ArePartsBy R (z ∷ D) [] = ⊥
+ArePartsBy R (z ∷ D) (x ∷ q) = R z x × ArePartsBy R D q
 
 pub record Shared (e d v1 v2 : Pair) : Type 0 where
   pub e_small : PartsWithin (2 ^ 20) e
@@ -77,20 +82,20 @@ pub record Generates (D : List Pair) (s : Generator) : Type 0 where
   pub generated : Generated D s.k (quadratic s.w)
   pub coprime : Coprime (quadratic s.w)
 
-abbrev pub IsGeneration : List Pair → Generation → Type 0
-IsGeneration D (generation.Found s) = Generates D s
-IsGeneration D generation.None = NotGenerated D
+abbrev pub IsGeneration : List Pair → Option Generator → Type 0
+IsGeneration D (Some s) = Generates D s
+IsGeneration D None = NotGenerated D
 
-abbrev pub IsLine : List Pair → Generation → Type 0
-IsLine D (generation.Found s) = Generates D s × (s.w.b2 ≡ pairs.none)
-IsLine D generation.None = NotGenerated D
+abbrev pub IsLine : List Pair → Option Generator → Type 0
+IsLine D (Some s) = Generates D s × (s.w.b2 ≡ pairs.none)
+IsLine D None = NotGenerated D
 
 abbrev pub middle_size : ℕ
 middle_size = 56568
 
-abbrev pub IsMiddle : Pair → Pair → Pair → Middle → Type 0
-IsMiddle d0 d1 d2 (middle.Found m) = (times d0 m ≡ minus (multiple (pos 3) (times d0 d2)) (multiple (pos 2) (times d1 d1))) × PartsWithin middle_size m
-IsMiddle d0 d1 d2 middle.None = (d3 d4 m : Pair) → PartsWithin leg_reach d4 → QuinticRule d0 d1 d2 d3 d4 m → ⊥
+abbrev pub IsMiddle : Pair → Pair → Pair → Option Pair → Type 0
+IsMiddle d0 d1 d2 (Some m) = (times d0 m ≡ minus (multiple (pos 3) (times d0 d2)) (multiple (pos 2) (times d1 d1))) × PartsWithin middle_size m
+IsMiddle d0 d1 d2 None = (d3 d4 m : Pair) → PartsWithin leg_reach d4 → QuinticRule d0 d1 d2 d3 d4 m → ⊥
 
 abbrev pub MeetsRule : Pair → Pair → Pair → Type 0
 MeetsRule d0 d1 m = (d2 : Pair) × (d3 : Pair) × (d4 : Pair) × QuinticRule d0 d1 d2 d3 d4 m

@@ -76,4 +76,3 @@ Holds D verdict.Still = Still D
 Holds D verdict.No = (Still D → ⊥) × NotSquared D
 Holds D (verdict.Ph s) = (Still D → ⊥) × SquareOf D s × NotGenerated D
 Holds D (verdict.Pre p) = (Still D → ⊥) × PreimageOf D p
-Holds D (verdict.Refused r) = ⊥

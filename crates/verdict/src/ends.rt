@@ -6,11 +6,10 @@ ghost use Rattle.pair.specs.Pairs.{pairs, PartsWithin, AllWithin};
 ghost use Rattle.curve.specs.Steps.{legs_of};
 ghost use Rattle.curve.specs.Sizes.{leg_reach};
 ghost use Rattle.verdict.specs.Rules.{EndDivides};
-ghost use Rattle.verdict.specs.Steps.{FirstEnd, LastEnd};
+ghost use Rattle.verdict.specs.Steps.{FirstEnd, LastEnd, reversed};
 
 use curve::Legs;
 use pair::{Pair, cross, is_zero, norm};
-use whole::size;
 
 // Whether d divides n times the square of x, by remainders: by one, unless n x^2 might not fit.
 fn divides_square(d: u64, x: u64, n: u64) -> bool
@@ -18,9 +17,10 @@ fn divides_square(d: u64, x: u64, n: u64) -> bool
     ensures { Tells (x * x * n % d ≡ 0) result }
 {
     if x <= 1073741824 {
-        return x * x * n % d == 0;
+        x * x * n % d == 0
+    } else {
+        (x * x % d) * n % d == 0
     }
-    (x * x % d) * n % d == 0
 }
 
 // Whether |d|^2 divides n (d × e)^2.
@@ -28,10 +28,18 @@ fn end_divides(d: Pair, e: Pair, n: u64) -> bool
     requires { PartsWithin leg_reach d × PartsWithin leg_reach e × (n ≤ 8) }
     ensures { Tells (EndDivides (pos n) d e) result }
 {
-    if is_zero(d) {
-        return true;
+    // `as`: a norm is at least 0; `try_from` would have an error that never comes.
+    is_zero(d) || divides_square(norm(d) as u64, cross(d, e).unsigned_abs(), n)
+}
+
+// The legs in the other order. A curve that is run backwards has these, but for their signs.
+fn reversed(legs: Legs) -> Legs
+    ensures { result ≡ reversed legs }
+{
+    match legs {
+        Legs::Cubic(d0, d1, d2) => Legs::Cubic(d2, d1, d0),
+        Legs::Quintic(d0, d1, d2, d3, d4) => Legs::Quintic(d4, d3, d2, d1, d0),
     }
-    divides_square(norm(d) as u64, size(cross(d, e)), n)
 }
 
 // Whether it is so at the first leg.
@@ -50,8 +58,5 @@ pub(crate) fn last_end(legs: Legs) -> bool
     requires { AllWithin leg_reach (legs_of legs) }
     ensures { Tells (LastEnd legs) result }
 {
-    match legs {
-        Legs::Cubic(_, d1, d2) => end_divides(d2, d1, 2),
-        Legs::Quintic(_, _, _, d3, d4) => end_divides(d4, d3, 8),
-    }
+    first_end(reversed(legs))
 }

@@ -1,4 +1,6 @@
 // The verdict on a curve: whether it is Pythagorean, and by which numbers.
+// How large legs and coefficients are stands in the contracts and not in `Legs` or `Quadratic`: the theorems `first-refused` and `last_refused` speak of any
+// `Legs`, and a `Quadratic` has parts up to 20,000 while it is found, but up to 2,000 where `measure` takes it.
 #![tactic(auto)]
 
 mod ends;
@@ -26,17 +28,10 @@ use refusal::Refusal;
 use root::Quartic;
 use roots::squared;
 pub use roots::{imaginaries, reals};
-use rules::{Generation, generator_of};
-
-// The highest power of a polynomial that has a coefficient other than 0.
-#[derive(Clone, Copy)]
-pub enum Highest {
-    Power(u64),
-    Zero,
-}
+use rules::generator_of;
 
 // b0 + b1 t + b2 t^2
-#[derive(Clone, Copy)]
+#[derive(Clone, Copy, Debug, PartialEq, Eq)]
 pub struct Quadratic {
     pub b0: Pair,
     pub b1: Pair,
@@ -44,33 +39,26 @@ pub struct Quadratic {
 }
 
 // N = c q^2
-#[derive(Clone, Copy)]
+#[derive(Clone, Copy, Debug, PartialEq, Eq)]
 pub struct Square {
     pub c: i64,
     pub q: Quartic,
 }
 
 // D = kappa w^2, and with it N = c q^2
-#[derive(Clone, Copy)]
+#[derive(Clone, Copy, Debug, PartialEq, Eq)]
 pub struct Preimage {
     pub kappa: Pair,
     pub w: Quadratic,
     pub square: Square,
 }
 
-#[derive(Clone, Copy)]
+#[derive(Clone, Copy, Debug, PartialEq, Eq)]
 pub enum Verdict {
     Still,
     No,
     Ph(Square),
     Pre(Preimage),
-    Refused(Refusal),
-}
-
-#[derive(Clone, Copy)]
-pub enum PreimageAnswer {
-    Found(Preimage),
-    Refused(Refusal),
 }
 
 // Whether every leg is 0.
@@ -80,13 +68,7 @@ fn is_still(legs: Legs) -> bool
     match legs {
         Legs::Cubic(d0, d1, d2) => three_are_zero(d0, d1, d2),
         Legs::Quintic(d0, d1, d2, d3, d4) => {
-            if !three_are_zero(d0, d1, d2) {
-                return false;
-            }
-            if !is_zero(d3) {
-                return false;
-            }
-            is_zero(d4)
+            three_are_zero(d0, d1, d2) && is_zero(d3) && is_zero(d4)
         }
     }
 }
@@ -113,33 +95,30 @@ fn decide(legs: Legs) -> Verdict
     if is_still(legs) {
         return Verdict::Still;
     }
-    let Generation::Found(s) = generator_of(legs) else {
+    let Some(s) = generator_of(legs) else {
         return unmade(legs);
     };
-    let k = s.k;
-    let w = s.w;
-    generated(k, w)
+    generated(s)
 }
 
 // Whether a curve is Pythagorean, and if so by which numbers.
-pub fn recognise(curve: Curve) -> Verdict
+pub fn recognise(curve: Curve) -> Result<Verdict, Refusal>
     ensures { Recognised (points_of curve) result }
 {
     if !in_range(curve) {
-        return Verdict::Refused(Refusal::Range);
+        return Err(Refusal::Range);
     }
-    decide(legs_of(curve))
+    Ok(decide(legs_of(curve)))
 }
 
 // The pre-image, for the calls that measure a curve by it.
-pub fn preimage_of(curve: Curve) -> PreimageAnswer
+pub fn preimage_of(curve: Curve) -> Result<Preimage, Refusal>
     ensures { Preimaged (points_of curve) result }
 {
-    match recognise(curve) {
-        Verdict::Still => PreimageAnswer::Refused(Refusal::Still),
-        Verdict::No => PreimageAnswer::Refused(Refusal::NotPh),
-        Verdict::Ph(_) => PreimageAnswer::Refused(Refusal::NoPreimage),
-        Verdict::Pre(p) => PreimageAnswer::Found(p),
-        Verdict::Refused(r) => PreimageAnswer::Refused(r),
+    match recognise(curve)? {
+        Verdict::Still => Err(Refusal::Still),
+        Verdict::No => Err(Refusal::NotPh),
+        Verdict::Ph(_) => Err(Refusal::NoPreimage),
+        Verdict::Pre(p) => Ok(p),
     }
 }

@@ -11,73 +11,63 @@ ghost use Rattle.bernstein.specs.Powers.{power_form};
 ghost use Rattle.curve.specs.Curves.{reals, imaginaries, norm_polynomial};
 ghost use Rattle.curve.specs.Steps.{legs_of, leg_powers};
 ghost use Rattle.verdict.specs.Verdicts.{NotGenerated, Holds};
-ghost use Rattle.verdict.specs.Steps.{IsHighest, OfLegs};
+ghost use Rattle.verdict.specs.Steps.{IsHighest, ArePartsBy, OfLegs};
 
-use crate::{Highest, Square, Verdict};
+use crate::{Square, Verdict};
 use curve::{LegPowers, Legs, drawn};
-use pair::is_zero;
-use root::{Octic, Quartic, WholeRoot, square, whole_root};
+use pair::{Pair, is_zero};
+use root::{Octic, Quartic, square, whole_root};
 use whole::{gcd_all, share};
 
-// The highest power of a polynomial.
-fn degree(e: LegPowers) -> Highest
+// The highest power of a polynomial that has a coefficient other than 0.
+// By hand: `rposition` over the five coefficients says which test told first, and the proof did not close over what it tells of the others.
+fn degree(e: LegPowers) -> Option<u64>
     ensures { IsHighest (leg_powers e) result }
 {
-    let e0 = e.e0;
-    let e1 = e.e1;
-    let e2 = e.e2;
-    let e3 = e.e3;
-    let e4 = e.e4;
-    if !is_zero(e4) {
-        return Highest::Power(4);
+    if !is_zero(e.e4) {
+        Some(4)
+    } else if !is_zero(e.e3) {
+        Some(3)
+    } else if !is_zero(e.e2) {
+        Some(2)
+    } else if !is_zero(e.e1) {
+        Some(1)
+    } else if !is_zero(e.e0) {
+        Some(0)
+    } else {
+        None
     }
-    if !is_zero(e3) {
-        return Highest::Power(3);
-    }
-    if !is_zero(e2) {
-        return Highest::Power(2);
-    }
-    if !is_zero(e1) {
-        return Highest::Power(1);
-    }
-    if !is_zero(e0) {
-        return Highest::Power(0);
-    }
-    Highest::Zero
 }
 
+// Field by field, as in `shared`: root names the coefficients of an `Octic`, since `square` has a formula for each.
 fn added(a: Octic, b: Octic) -> Octic
     requires { Each wholes Sized (octic a) × Each wholes Sized (octic b) }
     ensures { octic result ≡ sum wholes (octic a) (octic b) }
 {
-    let a0 = a.m0;
-    let a1 = a.m1;
-    let a2 = a.m2;
-    let a3 = a.m3;
-    let a4 = a.m4;
-    let a5 = a.m5;
-    let a6 = a.m6;
-    let a7 = a.m7;
-    let a8 = a.m8;
-    let b0 = b.m0;
-    let b1 = b.m1;
-    let b2 = b.m2;
-    let b3 = b.m3;
-    let b4 = b.m4;
-    let b5 = b.m5;
-    let b6 = b.m6;
-    let b7 = b.m7;
-    let b8 = b.m8;
     Octic {
-        m0: a0 + b0,
-        m1: a1 + b1,
-        m2: a2 + b2,
-        m3: a3 + b3,
-        m4: a4 + b4,
-        m5: a5 + b5,
-        m6: a6 + b6,
-        m7: a7 + b7,
-        m8: a8 + b8,
+        m0: a.m0 + b.m0,
+        m1: a.m1 + b.m1,
+        m2: a.m2 + b.m2,
+        m3: a.m3 + b.m3,
+        m4: a.m4 + b.m4,
+        m5: a.m5 + b.m5,
+        m6: a.m6 + b.m6,
+        m7: a.m7 + b.m7,
+        m8: a.m8 + b.m8,
+    }
+}
+
+// A part of each coefficient.
+fn parts<F: Fn(Pair) -> i64>(e: LegPowers, part: F) -> Quartic
+    requires { F.IsAlwaysCallable part }
+    ensures { ArePartsBy (F.post part) (leg_powers e) (quartic result) }
+{
+    Quartic {
+        q0: part(e.e0),
+        q1: part(e.e1),
+        q2: part(e.e2),
+        q3: part(e.e3),
+        q4: part(e.e4),
     }
 }
 
@@ -85,35 +75,13 @@ fn added(a: Octic, b: Octic) -> Octic
 pub fn reals(e: LegPowers) -> Quartic
     ensures { quartic result ≡ reals (leg_powers e) }
 {
-    let e0 = e.e0;
-    let e1 = e.e1;
-    let e2 = e.e2;
-    let e3 = e.e3;
-    let e4 = e.e4;
-    Quartic {
-        q0: e0.re,
-        q1: e1.re,
-        q2: e2.re,
-        q3: e3.re,
-        q4: e4.re,
-    }
+    parts(e, |z| z.re)
 }
 
 pub fn imaginaries(e: LegPowers) -> Quartic
     ensures { quartic result ≡ imaginaries (leg_powers e) }
 {
-    let e0 = e.e0;
-    let e1 = e.e1;
-    let e2 = e.e2;
-    let e3 = e.e3;
-    let e4 = e.e4;
-    Quartic {
-        q0: e0.im,
-        q1: e1.im,
-        q2: e2.im,
-        q3: e3.im,
-        q4: e4.im,
-    }
+    parts(e, |z| z.im)
 }
 
 // |e|^2
@@ -130,6 +98,7 @@ fn content(n: Octic) -> i64
     ensures { Greatest wholes (octic n) result × (pos 0 <ℤ result) × Sized result }
 {
     let all = [n.m0, n.m1, n.m2, n.m3, n.m4, n.m5, n.m6, n.m7, n.m8];
+    // `as`: it is no larger than a coefficient that is not 0; `try_from` would have an error that never comes.
     gcd_all(&all) as i64
 }
 
@@ -157,12 +126,12 @@ pub(crate) fn squared(legs: Legs) -> Verdict
     ensures { Holds (power_form (legs_of legs)) result }
 {
     let e = drawn(legs);
-    let Highest::Power(l) = degree(e) else {
+    let Some(l) = degree(e) else {
         return Verdict::Still;
     };
     let n = norm_polynomial(e);
     let c = content(n);
-    let WholeRoot::Root(q) = whole_root(shared(n, c), l) else {
+    let Some(q) = whole_root(shared(n, c), l) else {
         return Verdict::No;
     };
     Verdict::Ph(Square { c, q })

@@ -9,31 +9,17 @@ ghost use Rattle.verdict.specs.Steps.{Shared, Over, MeetsRule, ByMiddle, IsGener
 
 use crate::Quadratic;
 use curve::Legs;
-use divisor::{PairQuotient, gcd, quotient, share};
-use pair::{Pair, difference, equal, is_zero, multiple, product, sum, within};
+use divisor::{gcd, quotient, share};
+use pair::{Pair, ZERO, difference, is_zero, multiple, product, sum, within};
 
 // How large a part of the m of the quintic rule may be.
 const MIDDLE_SIZE: u32 = 56568;
 
 // D = k w^2
-#[derive(Clone, Copy)]
+#[derive(Clone, Copy, Debug, PartialEq, Eq)]
 pub struct Generator {
     pub k: Pair,
     pub w: Quadratic,
-}
-
-// A generator, or that there is none.
-#[derive(Clone, Copy)]
-pub enum Generation {
-    Found(Generator),
-    None,
-}
-
-// The m of the quintic rule, or that there is none.
-#[derive(Clone, Copy)]
-pub enum Middle {
-    Found(Pair),
-    None,
 }
 
 // v / e, and e^2 / d, where d is the first of v: it is e over the first of v / e.
@@ -52,42 +38,40 @@ fn over(e: Pair, d: Pair, v1: Pair, v2: Pair) -> Generator
 }
 
 // The rule of three Bernstein coefficients.
-fn line_generator(e0: Pair, e1: Pair, e2: Pair) -> Generation
+fn line_generator(e0: Pair, e1: Pair, e2: Pair) -> Option<Generator>
     requires { PartsWithin 240000 e0 × PartsWithin 240000 e1 × PartsWithin 240000 e2 }
     ensures { IsLine (power_form (e0 ∷ e1 ∷ e2 ∷ [])) result }
 {
-    if !equal(product(e1, e1), product(e0, e2)) {
-        return Generation::None;
+    if product(e1, e1) != product(e0, e2) {
+        return None;
     }
-    let none = Pair { re: 0, im: 0 };
     if is_zero(e0) {
         let one = Pair { re: 1, im: 0 };
-        return Generation::Found(Generator {
+        return Some(Generator {
             k: e2,
             w: Quadratic {
-                b0: none,
+                b0: ZERO,
                 b1: one,
-                b2: none,
+                b2: ZERO,
             },
         });
     }
-    Generation::Found(over(gcd(e0, e1), e0, difference(e1, e0), none))
+    Some(over(gcd(e0, e1), e0, difference(e1, e0), ZERO))
 }
 
 // (3 d0 d2 - 2 d1^2) / d0, if it is a pair and not too large to be m.
-fn middle_of(d0: Pair, d1: Pair, d2: Pair) -> Middle
+fn middle_of(d0: Pair, d1: Pair, d2: Pair) -> Option<Pair>
     requires { PartsWithin leg_reach d0 × PartsWithin leg_reach d1 × PartsWithin leg_reach d2 × (d0 ≢ pairs.none) }
     ensures { IsMiddle d0 d1 d2 result }
 {
     let square = product(d1, d1);
-    let PairQuotient::Whole(x) = quotient(sum(square, square), d0) else {
-        return Middle::None;
-    };
+    let x = quotient(sum(square, square), d0)?;
     let m = difference(multiple(3, d2), x);
-    if !within(m, MIDDLE_SIZE) {
-        return Middle::None;
+    if within(m, MIDDLE_SIZE) {
+        Some(m)
+    } else {
+        None
     }
-    Middle::Found(m)
 }
 
 // The generator that an m leaves which meets the rule, whatever the other legs are.
@@ -106,48 +90,41 @@ fn by_middle(d0: Pair, d1: Pair, m: Pair) -> Generator
 }
 
 // D / t^2 of a quintic whose first leg is 0 has three Bernstein coefficients.
-fn end_generator(d1: Pair, d2: Pair, d3: Pair, d4: Pair) -> Generation
+fn end_generator(d1: Pair, d2: Pair, d3: Pair, d4: Pair) -> Option<Generator>
     requires { PartsWithin leg_reach d2 × PartsWithin leg_reach d3 × PartsWithin leg_reach d4 }
     ensures { IsGeneration (power_form (pairs.none ∷ d1 ∷ d2 ∷ d3 ∷ d4 ∷ [])) result }
 {
     if !is_zero(d1) {
-        return Generation::None;
+        return None;
     }
-    let Generation::Found(s) = line_generator(multiple(6, d2), multiple(2, d3), d4) else {
-        return Generation::None;
-    };
-    let k = s.k;
-    let u = s.w;
-    let b1 = u.b0;
-    let b2 = u.b1;
-    let b0 = Pair { re: 0, im: 0 };
-    Generation::Found(Generator {
-        k,
-        w: Quadratic { b0, b1, b2 },
+    let s = line_generator(multiple(6, d2), multiple(2, d3), d4)?;
+    Some(Generator {
+        k: s.k,
+        w: Quadratic {
+            b0: ZERO,
+            b1: s.w.b0,
+            b2: s.w.b1,
+        },
     })
 }
 
-fn quintic_generator(d0: Pair, d1: Pair, d2: Pair, d3: Pair, d4: Pair) -> Generation
+// Five arguments, as `Legs` has five fields, and no array of them: it would be filled for this call alone, only to be taken apart at once.
+fn quintic_generator(d0: Pair, d1: Pair, d2: Pair, d3: Pair, d4: Pair) -> Option<Generator>
     requires { AllWithin leg_reach (d0 ∷ d1 ∷ d2 ∷ d3 ∷ d4 ∷ []) }
     ensures { IsGeneration (power_form (d0 ∷ d1 ∷ d2 ∷ d3 ∷ d4 ∷ [])) result }
 {
     if is_zero(d0) {
         return end_generator(d1, d2, d3, d4);
     }
-    let Middle::Found(m) = middle_of(d0, d1, d2) else {
-        return Generation::None;
-    };
-    if !equal(product(d1, m), product(d0, d3)) {
-        return Generation::None;
+    let m = middle_of(d0, d1, d2)?;
+    if product(d1, m) != product(d0, d3) || product(m, m) != product(d0, d4) {
+        return None;
     }
-    if !equal(product(m, m), product(d0, d4)) {
-        return Generation::None;
-    }
-    Generation::Found(by_middle(d0, d1, m))
+    Some(by_middle(d0, d1, m))
 }
 
 // The k and w of D, from the legs.
-pub(crate) fn generator_of(legs: Legs) -> Generation
+pub(crate) fn generator_of(legs: Legs) -> Option<Generator>
     requires { AllWithin leg_reach (legs_of legs) }
     ensures { IsGeneration (power_form (legs_of legs)) result }
 {

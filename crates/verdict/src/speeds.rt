@@ -16,11 +16,7 @@ fn dot(a: Pair, b: Pair) -> i64
     requires { PartsWithin 20000 a × PartsWithin 20000 b }
     ensures { result ≡ a.re *ℤ b.re +ℤ a.im *ℤ b.im }
 {
-    let x = a.re;
-    let y = a.im;
-    let u = b.re;
-    let v = b.im;
-    x * u + y * v
+    a.re * b.re + a.im * b.im
 }
 
 // |w|^2: where D = k w^2, it is the q of N.
@@ -28,14 +24,11 @@ pub(crate) fn speed(w: Quadratic) -> Quartic
     requires { AllWithin 20000 (quadratic w) }
     ensures { Same wholes (quartic result) (norm_polynomial (quadratic w)) }
 {
-    let b0 = w.b0;
-    let b1 = w.b1;
-    let b2 = w.b2;
     Quartic {
-        q0: norm(b0),
-        q1: 2 * dot(b0, b1),
-        q2: 2 * dot(b0, b2) + norm(b1),
-        q3: 2 * dot(b1, b2),
-        q4: norm(b2),
+        q0: norm(w.b0),
+        q1: 2 * dot(w.b0, w.b1),
+        q2: 2 * dot(w.b0, w.b2) + norm(w.b1),
+        q3: 2 * dot(w.b1, w.b2),
+        q4: norm(w.b2),
     }
 }

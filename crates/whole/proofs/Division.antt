@@ -6,14 +6,16 @@
 --   rest-zero, zero_rest             where d divides x, r is 0; and where r is 0, d q = x
 --   share_once, quotient_once, nearest_once      an exact quotient and a nearest one have one answer
 --   nearest_close                    the nearest one leaves at most half of d over
+use Rattle.std.specs.Prelude.{Option}
+use Rattle.std.proofs.lemmas.Int.{quot-rem}
 use mathlib.Core.Path.{◌≡◌, refl, sym, ap, ◌∙◌}
 use mathlib.Core.List.{[], ◌∷◌}
 use mathlib.Core.Logic.{◌≢◌}
 use Prim.Native.Nat.{ℕ, zero, suc, ◌*◌, ◌/◌, ◌%◌, ◌^◌, ◌<◌, ◌≤◌}
-use native.Mathlib.Nat.{div-add-mod', mul-mod_left, div-le_self, div-lt_self, mod-lt, lt_of_le_of_lt, pos_of_ne-zero}
+use native.Mathlib.Nat.{mul-mod_left, div-le_self, div-lt_self, mod-lt, lt_of_le_of_lt, pos_of_ne-zero}
 use native.Mathlib.Decide.{dec_lt}
 use native.Mathlib.Omega.{arith}
-use lib.IntN.{ℤ, pos, negsuc, neg_ℤ, nat_abs, ◌+ℤ◌, ◌-ℤ◌, ◌*ℤ◌, *ℤ_comm, +ℤ_idr}
+use lib.IntN.{ℤ, pos, negsuc, nat_abs, ◌+ℤ◌, ◌-ℤ◌, ◌*ℤ◌, *ℤ_comm, +ℤ_idr}
 use lib.Signed.{quot_z, rem_z, mag_rem}
 use mir.Syntax.{w64}
 use mir.Val.{SFits}
@@ -21,27 +23,13 @@ use Rattle.whole.specs.Coefficients.{Divides}
 use Rattle.whole.specs.Number.{wholes}
 use Rattle.whole.proofs.Integers.{abs_negative, abs_times, abs_zero}
 use Rattle.whole.specs.Promise.{Divisible, IsQuotient, Nearest}
-use Rattle.whole.specs.declared.Exact.{Exact}
-use Rattle.whole.specs.declared.Exact.TheVariants.{Whole, Fraction}
 use Rattle.whole.proofs.Wholes.{readℤ, atomsℤ, ringℤ, *ℤ-cancel, wholes_ring}
+use Rattle.whole.proofs.Options.{option_once}
 use Rattle.whole.proofs.Ring.{zero-difference}
 use Rattle.whole.proofs.Linear.{linear, minus_parts, times_parts, negative_parts, abs_parts, one-part}
 
--- the signs of x and d go through: (−q)(−d) + r, (−q) d − r and q (−d) − r, from q d + r
-turn_divisor : (q d r : ℤ) → neg_ℤ q *ℤ neg_ℤ d +ℤ r ≡ q *ℤ d +ℤ r
-turn_divisor q d r = atomsℤ (q ∷ d ∷ r ∷ []) (λ ρ e. simp (e 0, e 1, e 2, readℤ) (ringℤ ρ _ _ tt))
-
-turn_both : (q d r : ℤ) → neg_ℤ q *ℤ d +ℤ neg_ℤ r ≡ neg_ℤ (q *ℤ d +ℤ r)
-turn_both q d r = atomsℤ (q ∷ d ∷ r ∷ []) (λ ρ e. simp (e 0, e 1, e 2, readℤ) (ringℤ ρ _ _ tt))
-
-turn-rest : (q d r : ℤ) → q *ℤ neg_ℤ d +ℤ neg_ℤ r ≡ neg_ℤ (q *ℤ d +ℤ r)
-turn-rest q d r = atomsℤ (q ∷ d ∷ r ∷ []) (λ ρ e. simp (e 0, e 1, e 2, readℤ) (ringℤ ρ _ _ tt))
-
 pub quotient-rest : (x d : ℤ) → quot_z x d *ℤ d +ℤ rem_z x d ≡ x
-quotient-rest (pos a) (pos b) = ap pos (div-add-mod' a b)
-quotient-rest (pos a) (negsuc b) = turn_divisor (pos (a / suc b)) (pos (suc b)) (pos (a % suc b)) ∙ ap pos (div-add-mod' a (suc b))
-quotient-rest (negsuc a) (pos b) = turn_both (pos (suc a / b)) (pos b) (pos (suc a % b)) ∙ ap (λ (n : ℕ). neg_ℤ (pos n)) (div-add-mod' (suc a) b)
-quotient-rest (negsuc a) (negsuc b) = turn-rest (pos (suc a / suc b)) (pos (suc b)) (pos (suc a % suc b)) ∙ ap (λ (n : ℕ). neg_ℤ (pos n)) (div-add-mod' (suc a) (suc b))
+quotient-rest = quot-rem
 
 pub abs_quotient : (x d : ℤ) → nat_abs (quot_z x d) ≡ nat_abs x / nat_abs d
 abs_quotient (pos a) (pos b) = refl
@@ -85,11 +73,8 @@ zero_rest x d e = *ℤ_comm d (quot_z x d) ∙ sym (+ℤ_idr (quot_z x d *ℤ d)
 pub share_once : (n d p q : ℤ) → d ≢ pos 0 → d *ℤ p ≡ n → d *ℤ q ≡ n → p ≡ q
 share_once n d p q h e f = *ℤ-cancel d h (e ∙ sym f)
 
-pub quotient_once : (n d : ℤ) → d ≢ pos 0 → (r s : Exact) → IsQuotient n d r → IsQuotient n d s → r ≡ s
-quotient_once n d h (Whole p) (Whole q) e f = ap Whole (share_once n d p q h e f)
-quotient_once n d h (Whole p) Fraction e f = absurd (f (record { factor = p; is = e }))
-quotient_once n d h Fraction (Whole q) e f = absurd (e (record { factor = q; is = f }))
-quotient_once n d h Fraction Fraction e f = refl
+pub quotient_once : (n d : ℤ) → d ≢ pos 0 → (r s : Option ℤ) → IsQuotient n d r → IsQuotient n d s → r ≡ s
+quotient_once n d h = option_once (IsQuotient n d) (λ p q. share_once n d p q h) (λ q e none. none (record { factor = q; is = e }))
 
 pub nearest_close : {n d q : ℤ} → Nearest n d q → 2 * nat_abs (n -ℤ q *ℤ d) ≤ nat_abs d
 nearest_close {n} {d} {q} h =

@@ -1,13 +1,16 @@
 -- What a flag tells.
 --   told, untold     P holds where its flag is true, and not where it is false: for a branch that has tested it
+--   told_true, told_false      the same for a flag that was not tested by `!`
 --   told_once        P has one flag: one answer of every promise by `Tells`
 --   told-map         what holds exactly where P does has the same flag
+--   decided          the same of std's `Decides`
 --   equal_tells, order_tells     what a returned test of two natural numbers tells: that they are equal, and their order
+use Rattle.std.specs.Bool.{Decides}
+use Rattle.std.proofs.lemmas.Bool.Decides.{Decides-eqb}
 use mathlib.Core.Path.{◌≡◌, refl, subst}
-use mathlib.Core.Bool.{Bool, true, false, not}
+use mathlib.Core.Bool.{Bool, true, false, not, false≢true}
 use Prim.Native.Nat.{ℕ, ◌≤◌}
-use native.Mathlib.Omega.{arith}
-use borrow.Author.Tests.{not-true, not-false, eqb-true, eqb-false, leb-true, leb-false}
+use borrow.Author.Tests.{not-true, not-false, leb-true, le-leb}
 use lib.Dec.{eqb, leb}
 use Rattle.whole.specs.Number.{Tells}
 
@@ -16,6 +19,12 @@ told {P} r h e = subst (Tells P) (not-false r e) h
 
 pub untold : {P : Type 0} (r : Bool) → Tells P r → not r ≡ true → P → ⊥
 untold {P} r h e = subst (Tells P) (not-true r e) h
+
+pub told_true : {P : Type 0} {r : Bool} → Tells P r → r ≡ true → P
+told_true {P} h e = subst (Tells P) e h
+
+pub told_false : {P : Type 0} {r : Bool} → Tells P r → r ≡ false → P → ⊥
+told_false {P} h e = subst (Tells P) e h
 
 pub told_once : (P : Type 0) (a b : Bool) → Tells P a → Tells P b → a ≡ b
 told_once P true true h k = refl
@@ -27,16 +36,12 @@ pub told-map : {P Q : Type 0} → (P → Q) → (Q → P) → (r : Bool) → Tel
 told-map there back false h = λ q. h (back q)
 told-map there back true h = there h
 
+pub decided : {P : Type 0} (r : Bool) → Decides r P → Tells P r
+decided true d = d.0 refl
+decided false d = λ p. false≢true (d.1 p)
+
 pub equal_tells : (a b : ℕ) → Tells (a ≡ b) (eqb a b)
-equal_tells a b = by (eqb a b) refl
-  where
-    by : (r : Bool) → eqb a b ≡ r → Tells (a ≡ b) r
-    by true e = eqb-true a b e
-    by false e = eqb-false a b e
+equal_tells a b = decided (eqb a b) (Decides-eqb a b)
 
 pub order_tells : (a b : ℕ) → Tells (a ≤ b) (leb a b)
-order_tells a b = by (leb a b) refl
-  where
-    by : (r : Bool) → leb a b ≡ r → Tells (a ≤ b) r
-    by true e = leb-true a b e
-    by false e = λ l. omega (arith, leb-false a b e)
+order_tells a b = decided (leb a b) (leb-true a b, le-leb a b)

@@ -4,6 +4,7 @@
 --   abs_one                      only 1 and −1 have absolute value 1
 --   abs_zero, *ℤ-domain          only 0 has absolute value 0; a product is 0 only where a factor is
 -- Everything else of ℤ as a ring is the solver's: see Wholes.
+use Rattle.std.proofs.lemmas.Int.{unsigned_abs-mul}
 use mathlib.Core.Path.{◌≡◌, refl, sym, ap, ap₂, ◌∙◌}
 use mathlib.Core.Logic.{◌⊎◌, inl, inr, ⊎_map}
 use Prim.Native.Nat.{ℕ, zero, suc, ◌*◌}
@@ -58,10 +59,7 @@ abs_negative (pos (suc n)) = refl
 abs_negative (negsuc n) = refl
 
 pub abs_times : (a b : ℤ) → nat_abs (a *ℤ b) ≡ nat_abs a * nat_abs b
-abs_times (pos a) (pos b) = refl
-abs_times (pos a) (negsuc b) = abs_negative (pos (a * suc b))
-abs_times (negsuc a) (pos b) = abs_negative (pos (suc a * b))
-abs_times (negsuc a) (negsuc b) = refl
+abs_times = unsigned_abs-mul
 
 pub abs_zero : (a : ℤ) → nat_abs a ≡ 0 → a ≡ pos 0
 abs_zero (pos n) e = ap pos e

@@ -8,6 +8,7 @@ pub mod Order
 pub mod Signs
 pub mod Bound
 pub mod Machine
+pub mod Options
 pub mod Division
 pub mod Divisor
 pub mod Evens

@@ -7,8 +7,10 @@
 --   root_is             and of k² it is k
 --   no_root             a number that leaves something over is no square,
 --   no_end              and neither is one that does not end as squares do
+--   exact-root_once     the root of a square, or that there is none, has one answer
 --   marked, ends_tell   the remainders of squares by 64 are those that a number of 64 binary digits marks
 --   Between, between_no_square     a whole number strictly between two squares that follow each other is no square
+use Rattle.std.specs.Prelude.{Option}
 use mathlib.Core.Path.{◌≡◌, refl, sym, ap, ◌∙◌, subst}
 use mathlib.Core.Bool.{Bool, true, false, ◌||◌, beq}
 use mathlib.Core.Logic.{◌≢◌}
@@ -21,9 +23,10 @@ use native.Mathlib.Omega.{arith}
 use lib.IntN.{ℤ, pos, nat_abs, ◌*ℤ◌}
 use Rattle.whole.specs.declared.Root.{Root}
 use Rattle.whole.specs.Number.{Tells}
-use Rattle.whole.specs.Promise.{IsRoot, EndsAsSquare}
+use Rattle.whole.specs.Promise.{IsRoot, IsExactRoot, EndsAsSquare}
 use Rattle.whole.proofs.Integers.{abs_times}
 use Rattle.whole.proofs.Flags.{told-map, equal_tells}
+use Rattle.whole.proofs.Options.{option_once}
 use Rattle.whole.proofs.Tables.{entry}
 
 pub root_positive : (n r : ℕ) → n ≢ 0 → n < (r + 1) * (r + 1) → 0 < r
@@ -80,6 +83,12 @@ root_is {n} h k e = let s : IsRoot n (record { root = k; rest = 0 }) = record { 
 
 pub no_root : {n : ℕ} {r : Root} → IsRoot n r → r.rest ≢ 0 → (k : ℕ) → k * k ≢ n
 no_root {r} h some k e = some (omega (arith, h.is, e, ap (λ x. x * x) (root_is h k e)))
+
+pub exact-root_once : (n : ℕ) (r s : Option ℕ) → IsExactRoot n r → IsExactRoot n s → r ≡ s
+exact-root_once n = option_once (IsExactRoot n) same (λ r e none. none r e)
+  where
+    same : (x y : ℕ) → x * x ≡ n → y * y ≡ n → x ≡ y
+    same x y e f = let h : IsRoot n (record { root = x; rest = 0 }) = record { is = omega (arith, e); small = omega arith } in root_is h y f
 
 -- ---- the remainders of squares by 64
 pub no_end : {n : ℕ} → (EndsAsSquare n → ⊥) → (k : ℕ) → k * k ≢ n

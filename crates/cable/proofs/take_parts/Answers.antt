@@ -7,4 +7,4 @@ pub loop-state-smaller : goal.loop-state-smaller
 loop-state-smaller g c =
     let arriving = c.loop-state.invariant in
     count_grows c.loop-state.state c.take_part-state.result arriving.0 _ arriving.1 (c.take_part-state.ensures arriving.0 arriving.1)
-    (omega (arith, c.in-Ok.ensures.bound.1, c.if-n-eq0.false)) (omega (arith, c.loop-state-test.true))
+    (omega (arith, c.in-Ok.ensures.bound.1, c.in-Ok.n-test)) (omega (arith, c.loop-state-test.true))

@@ -9,5 +9,5 @@ returns c =
     let r = c.joins in (
       r.result,
       simp (to_z-of_z, s.ax, s.ay, s.zx, s.zy, s.tx, s.ty) at r.ensures,
-      settled c.join_count.type_inv c.join_count.ensures,
+      settled c.count.type_inv c.count.ensures,
     )

@@ -16,7 +16,7 @@ use Rattle.whole.proofs.Wholes.{readℤ, read_pos}
 use Rattle.whole.proofs.Linear.{linear, abs_parts, one-part}
 use Rattle.whole.proofs.Order.{positive_times}
 use Rattle.whole.proofs.Division.{abs_quotient}
-use Rattle.whole.proofs.Machine.{same_bits, nonzero_bits}
+use Rattle.whole.proofs.Machine.{same_bits}
 use Rattle.whole.proofs.Bound.{done, ◌▸◌, bounds, within, fits_within, read_back}
 use Rattle.pair.specs.declared.Pair.{Pair}
 use Rattle.pair.specs.Pairs.{times, norm, PartsWithin}
@@ -86,68 +86,47 @@ module _ (z : Pair) (n : ℕ) (o : PartsWithin (2 ^ 30) z × (pos (n * n) ≡ no
       v-within : Within (2 ^ 30) v
       v-within = record { size = le_trans (le_of_eq (abs_quotient z.im d)) (le_trans (div-le_self (nat_abs z.im) (nat_abs d)) o.0.im.size) }
 
-pub overflow_cast-m : goal.overflow_cast-m
-overflow_cast-m c = fits_within (lit< tt) (n_within c.args.z c.args.n c.requires)
-
-pub overflow_add-m : goal.overflow_add-m
-overflow_add-m c =
+pub overflow_add-size : goal.overflow_add-size
+overflow_add-size c =
     let z = c.args.z in
     let n = c.args.n in
     let o = c.requires in
     rw (n-is z n o, x-is z n o) (fits_within (lit< tt) (plus-within z n o))
 
-pub half_root-u-requires : goal.half_root-u-requires
-half_root-u-requires c =
+pub half_root-re-requires : goal.half_root-re-requires
+half_root-re-requires c =
     let z = c.args.z in
     let n = c.args.n in
     let o = c.requires in
     rw (n-is z n o, x-is z n o, read_back tt (plus-within z n o)) (plus_nonneg z n o.1, plus-within z n o)
 
-pub overflow_sub-m : goal.overflow_sub-m
-overflow_sub-m c =
-    let z = c.args.z in
-    let n = c.args.n in
-    let o = c.requires in
-    rw (n-is z n o, x-is z n o) (fits_within (lit< tt) (minus-within z n o))
-
-pub half_root-requires : goal.half_root-requires
-half_root-requires c =
+pub half_root-im-requires : goal.half_root-im-requires
+half_root-im-requires c =
     let z = c.args.z in
     let n = c.args.n in
     let o = c.requires in
     rw (n-is z n o, x-is z n o, read_back tt (minus-within z n o)) (minus_nonneg z n o.1, minus-within z n o)
 
-pub overflow_mul-result : goal.overflow_mul-result
-overflow_mul-result c =
+pub overflow_mul-im : goal.overflow_mul-im
+overflow_mul-im c =
     let z = c.args.z in
     let n = c.args.n in
     let o = c.requires in
-    let u = c.half_root-u.result in
-    let h = c.half_root-u.ensures in
-    rw (u-is z n o u h) (fits_within (lit< tt) (d-within z n o u h c.if-u-eq0.false))
+    let u = c.half_root-re.result in
+    let h = c.half_root-re.ensures in
+    rw (u-is z n o u h) (fits_within (lit< tt) (d-within z n o u h c.if-re-eq0.false))
 
-pub nonzero_div-result : goal.nonzero_div-result
-nonzero_div-result c =
+pub returns-then-re-eq0 : goal.returns-then-re-eq0
+returns-then-re-eq0 c =
     let z = c.args.z in
     let n = c.args.n in
     let o = c.requires in
-    let u = c.half_root-u.result in
-    let h = c.half_root-u.ensures in
-    let some = c.if-u-eq0.false in
-    rw (u-is z n o u h, y-is z n o, d-is z n o u h some)
-    (nonzero_bits (fits_within (lit< tt) (d-within z n o u h some)) (λ e. let k = divisor z n o u h some in omega (linear, k, e)), fits_within (lit< tt) (v-within z n o u h some))
-
-pub returns-then-u-eq0 : goal.returns-then-u-eq0
-returns-then-u-eq0 c =
-    let z = c.args.z in
-    let n = c.args.n in
-    let o = c.requires in
-    let u = c.half_root-u.result in
-    let h = c.half_root-u.ensures in
-    let v-root : HalfRoot (pos n -ℤ z.re) c.half_root.result = rw (n-is z n o, x-is z n o, read_back tt (minus-within z n o)) at c.half_root.ensures in
+    let u = c.half_root-re.result in
+    let h = c.half_root-re.ensures in
+    let v-root : HalfRoot (pos n -ℤ z.re) c.half_root-im.result = rw (n-is z n o, x-is z n o, read_back tt (minus-within z n o)) at c.half_root-im.ensures in
     let v_small = half_small (minus-within z n o) v-root in
-    let none : u ≡ pos 0 = same_bits (fits_within (lit< tt) (u_small z n o u h)) (sfits_lit tt) c.if-u-eq0.true in
-    rw (read_back tt v_small)
+    let none : u ≡ pos 0 = same_bits (fits_within (lit< tt) (u_small z n o u h)) (sfits_lit tt) c.if-re-eq0.true in
+    rw (u-is z n o u h, none, read_back tt v_small)
     (record {
       small = record { re = record { size = omega arith }; im = record { size = le_trans v_small.size (lit≤ tt) } };
       first = omega linear;
@@ -155,14 +134,14 @@ returns-then-u-eq0 c =
       finds = λ r f. root_of_zero r (abs_zero r.re (ap nat_abs (sym (u-found z n o u h r f) ∙ none))) (half-found v-root (nat_abs r.im) (sym (half-minus z n o.1 r f))) ∙ f;
     })
 
-pub returns-else-u-eq0 : goal.returns-else-u-eq0
-returns-else-u-eq0 c =
+pub returns-else-re-eq0 : goal.returns-else-re-eq0
+returns-else-re-eq0 c =
     let z = c.args.z in
     let n = c.args.n in
     let o = c.requires in
-    let u = c.half_root-u.result in
-    let h = c.half_root-u.ensures in
-    let some = c.if-u-eq0.false in
+    let u = c.half_root-re.result in
+    let h = c.half_root-re.ensures in
+    let some = c.if-re-eq0.false in
     rw (u-is z n o u h, y-is z n o, d-is z n o u h some, read_back tt (v-within z n o u h some))
     (record {
       small = record { re = record { size = le_trans (u_small z n o u h).size (lit≤ tt) }; im = v-within z n o u h some };

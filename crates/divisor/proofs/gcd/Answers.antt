@@ -1,21 +1,15 @@
 -- `divisor::gcd` meets its contract. The invariant: x and y have the common divisors of a and b, and stay as small. The norm of y falls.
 use mathlib.Core.Path.{◌≡◌, sym, ap, ◌∙◌, subst}
 use mathlib.Core.Logic.Iff
-use mathlib.Core.Logic.{◌≢◌, ◌↔◌}
-use Prim.Native.Nat.{◌^◌, ◌<◌}
-use borrow.Author.Rules.{rules}
-use lib.Dec.{lit≤}
-use lib.IntN.{nat_abs}
+use mathlib.Core.Logic.{◌↔◌}
+use Prim.Native.Nat.{◌^◌}
 use mir.Facts.{sfits_lit}
-use mir.Syntax.{w64}
-use mir.Val.{of_z}
 use Rattle.whole.specs.Coefficients.{Divides}
 use Rattle.whole.specs.Number.{Tells}
 use Rattle.whole.proofs.Divisor.{divides_none, common_two, greatest_is, division_common}
 use Rattle.whole.proofs.Machine.{same_bits}
 use Rattle.pair.specs.declared.Pair.{Pair}
-use Rattle.pair.specs.Pairs.{pairs, plus, times, norm, PartsWithin}
-use Rattle.pair.proofs.Parts.{wider}
+use Rattle.pair.specs.Pairs.{pairs, plus, times, PartsWithin}
 use Rattle.pair.proofs.Laws.{pairs_ring, norm-zero}
 use Rattle.divisor.proofs.Division.{back_sum}
 use Rattle.divisor.proofs.gcd.Invariants.{Both}
@@ -31,26 +25,11 @@ returns-then-is_zero c =
     let z = subst (Tells (s.a ≡ pairs.none)) c.if-is_zero.true c.is_zero.ensures in
     greatest_is pairs_ring (λ d. Iff.trans (with_zero d s.b s.a z) (Iff.trans (λ h. (h.1, h.0), λ h. (h.1, h.0)) (Iff.symm (common_two pairs_ring d s.a s.b))))
 
-pub loop-y-init : goal.loop-y-init
-loop-y-init c = (search rules, search rules, λ d. Iff.rfl)
-
-pub norm-requires : goal.norm-requires
-norm-requires c = wider (lit≤ tt) c.loop-y.invariant.1
-
-some : (c : goal.In-loop-y) → c.loop-y.y ≢ pairs.none
-some c e = c.loop-y-test.true (ap (of_z w64) (c.norm.ensures ∙ ap norm e))
-
-pub rest-r-requires : goal.rest-r-requires
-rest-r-requires c = let l = c.loop-y in (l.invariant.0, l.invariant.1, some c)
-
-pub loop-y-smaller : goal.loop-y-smaller
-loop-y-smaller c = let h = c.rest-r.ensures in subst (λ r. nat_abs (norm r) < nat_abs (norm c.loop-y.y)) h.is h.near.less
-
 pub loop-y-preserved : goal.loop-y-preserved
 loop-y-preserved c =
     let i = c.loop-y.invariant in
     let l = c.loop-y in
-    let h = c.rest-r.ensures in
+    let h = c.rest.ensures in
     let t = times h.quotient l.y in
     (i.1, subst (PartsWithin (2 ^ 20)) h.is h.near.rest_small, λ d. Iff.trans (division_common pairs_ring {q = h.quotient} (ap (plus t) (sym h.is) ∙ back_sum l.x t) d) (i.2 d))
 

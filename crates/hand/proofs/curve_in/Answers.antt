@@ -4,22 +4,22 @@ use mathlib.Core.List.{[], ◌∷◌}
 use Rattle.hand.proofs.Areas.{spelled-all}
 use Rattle.hand.proofs.curve_in.Goals as goal
 
-pub returns-then-p-eq8 : goal.returns-then-p-eq8
-returns-then-p-eq8 c =
+pub returns-in-8 : goal.returns-in-8
+returns-in-8 c =
     let p0 = c.pair_at.ensures in
-    let p1 = c.pair_at-then-p-eq8.ensures in
-    let p2 = c.pair_at-then-p-eq8-2.ensures in
-    let p3 = c.pair_at-then-p-eq8-3.ensures in
+    let p1 = c.pair_at-in-8.ensures in
+    let p2 = c.pair_at-in-8-2.ensures in
+    let p3 = c.pair_at-in-8-3.ensures in
     (λ i. (p0 i).re ∷ (p0 i).im ∷ (p1 i).re ∷ (p1 i).im ∷ (p2 i).re ∷ (p2 i).im ∷ (p3 i).re ∷ (p3 i).im ∷ [])
-    ∙ spelled-all 8 _ c.if-p-eq8.true
+    ∙ spelled-all 8 _ c.in-8.is
 
-pub returns-then-p-eq12 : goal.returns-then-p-eq12
-returns-then-p-eq12 c =
-    let p0 = c.pair_at-then-p-eq12.ensures in
-    let p1 = c.pair_at-then-p-eq12-2.ensures in
-    let p2 = c.pair_at-then-p-eq12-3.ensures in
-    let p3 = c.pair_at-then-p-eq12-4.ensures in
-    let p4 = c.pair_at-then-p-eq12-5.ensures in
-    let p5 = c.pair_at-then-p-eq12-6.ensures in
+pub returns-in-12 : goal.returns-in-12
+returns-in-12 c =
+    let p0 = c.pair_at-in-12.ensures in
+    let p1 = c.pair_at-in-12-2.ensures in
+    let p2 = c.pair_at-in-12-3.ensures in
+    let p3 = c.pair_at-in-12-4.ensures in
+    let p4 = c.pair_at-in-12-5.ensures in
+    let p5 = c.pair_at-in-12-6.ensures in
     (λ i. (p0 i).re ∷ (p0 i).im ∷ (p1 i).re ∷ (p1 i).im ∷ (p2 i).re ∷ (p2 i).im ∷ (p3 i).re ∷ (p3 i).im ∷ (p4 i).re ∷ (p4 i).im ∷ (p5 i).re ∷ (p5 i).im ∷ [])
-    ∙ spelled-all 12 _ c.if-p-eq12.true
+    ∙ spelled-all 12 _ c.in-12.is

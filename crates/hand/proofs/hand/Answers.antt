@@ -1,11 +1,11 @@
 -- `hand` meets its contract.
 use borrow.Author.Rules.{rules}
-use mathlib.Core.Path.{refl}
+use mathlib.Core.Path.{refl, ◌∙◌}
 use native.Mathlib.Omega.{arith}
 use lib.ListN.{length, drop}
 use mir.Syntax.{w64}
 use mir.ValLaws.{to_z_pos}
-use Rattle.area.proofs.Areas.{fills_rest}
+use Rattle.area.proofs.Areas.{fills_rest, put_all}
 use Rattle.hand.proofs.Areas.{hands_same, hands_short, hands_given}
 use Rattle.hand.proofs.hand.Goals as goal
 
@@ -21,5 +21,5 @@ returns c =
     let vs = c.args.values.now in
     let rest = drop (length vs) c.args.area.now in
     hands_given vs (omega (arith, c.if-area-n.false)) (shape_of-area c)
-    (fills_rest (length vs) vs rest c.put.new.area c.clear.new.area refl c.put.ensures c.clear.ensures)
+    (fills_rest (length vs) vs rest c.put.new.area c.clear.new.area refl (c.put.ensures ∙ put_all c.args.area.now vs (omega (arith, c.if-area-n.false))) c.clear.ensures)
     (to_z_pos w64 (length vs) (omega (arith, c.well_formed)))

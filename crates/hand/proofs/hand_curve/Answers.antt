@@ -13,8 +13,5 @@ use Rattle.hand.proofs.hand_curve.Goals as goal
 named : {xs : List ℤ} {c d : Curve} → c ≡ d → xs ≡ numbers_of (points_of d) → ◌≡◌ {A = Answer (List ℤ)} (given xs) (given (numbers_of (points_of c)))
 named e n = ap given (n ∙ sym (ap (λ (c : Curve). numbers_of (points_of c)) e))
 
-pub returns-in-Cubic : goal.returns-in-Cubic
-returns-in-Cubic c = let numbers = c in hands_same (named numbers.in-Cubic.is numbers.cubic_numbers-xs.ensures) c.hand.type_inv c.hand.ensures
-
 pub returns-in-Quintic : goal.returns-in-Quintic
-returns-in-Quintic c = let numbers = c in hands_same (named numbers.in-Quintic.is numbers.quintic_numbers-xs.ensures) c.hand-in-Quintic.type_inv c.hand-in-Quintic.ensures
+returns-in-Quintic c = let numbers = c in hands_same (named numbers.in-Quintic.is numbers.quintic_numbers.ensures) c.hand-in-Quintic.type_inv c.hand-in-Quintic.ensures

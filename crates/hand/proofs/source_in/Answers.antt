@@ -4,15 +4,9 @@ use mathlib.Core.List.{[], ◌∷◌}
 use Rattle.hand.proofs.Areas.{spelled-all}
 use Rattle.hand.proofs.source_in.Goals as goal
 
-pub returns-then-w-eq4 : goal.returns-then-w-eq4
-returns-then-w-eq4 c =
-    let w0 = c.pair_at.ensures in
-    let w1 = c.pair_at-then-w-eq4.ensures in
-    (λ i. (w0 i).re ∷ (w0 i).im ∷ (w1 i).re ∷ (w1 i).im ∷ []) ∙ spelled-all 4 _ c.if-w-eq4.true
-
-pub returns-then-w-eq6 : goal.returns-then-w-eq6
-returns-then-w-eq6 c =
-    let w0 = c.pair_at-then-w-eq6.ensures in
-    let w1 = c.pair_at-then-w-eq6-2.ensures in
-    let w2 = c.pair_at-then-w-eq6-3.ensures in
-    (λ i. (w0 i).re ∷ (w0 i).im ∷ (w1 i).re ∷ (w1 i).im ∷ (w2 i).re ∷ (w2 i).im ∷ []) ∙ spelled-all 6 _ c.if-w-eq6.true
+pub returns-in-6 : goal.returns-in-6
+returns-in-6 c =
+    let w0 = c.pair_at-in-6.ensures in
+    let w1 = c.pair_at-in-6-2.ensures in
+    let w2 = c.pair_at-in-6-3.ensures in
+    (λ i. (w0 i).re ∷ (w0 i).im ∷ (w1 i).re ∷ (w1 i).im ∷ (w2 i).re ∷ (w2 i).im ∷ []) ∙ spelled-all 6 _ c.in-6.is

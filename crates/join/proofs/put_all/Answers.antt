@@ -35,20 +35,20 @@ pub put_ends-requires : goal.put_ends-requires
 put_ends-requires c =
     let s = c.args in
     let h = c.requires in
-    let f = c.in-Root.ensures in
-    let l = c.in-Root-root.ensures in (
+    let f = c.in-Some.ensures in
+    let l = c.in-Some-root.ensures in (
       record { first = root-small h.0.first f; fixed = rw c.fixed_part.ensures (fixed-within s.a s.z s.t h.0); last = root-small h.0.last l },
-      l.sign (r_some s.a s.z c.in-Root.w0 c.in-Root-root.r h.1 l),
+      l.sign (r_some s.a s.z c.in-Some.w0 c.in-Some-root.r h.1 l),
       h.2,
     )
 
 pub returns : goal.returns
 returns c =
     let s = c.args in
-    let w0 = c.in-Root.w0 in
-    let r = c.in-Root-root.r in
-    let f = c.in-Root.ensures in
-    let l = c.in-Root-root.ensures in
+    let w0 = c.in-Some.w0 in
+    let r = c.in-Some-root.r in
+    let f = c.in-Some.ensures in
+    let l = c.in-Some-root.ensures in
     let sign = f.sign (w0_some s.a s.z w0 r c.requires.1 f) in
     writes_as (omega arith)
     (ends_join s.a s.z s.t w0 f.squared sign r l.squared)

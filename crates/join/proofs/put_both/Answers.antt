@@ -5,7 +5,7 @@ use native.Mathlib.Omega.{arith}
 use lib.IntN.{pos}
 use Rattle.pair.specs.declared.Pair.{Pair}
 use Rattle.pair.specs.Pairs.{pairs, plus, minus, negative, multiple, PartsWithin}
-use Rattle.pair.proofs.Parts.{wider, plus-within, minus-within, negative-within}
+use Rattle.pair.proofs.Parts.{wider, minus-within, negative-within}
 use Rattle.divisor.specs.Promise.{KeptRoot}
 use Rattle.join.specs.Promise.{Triple}
 use Rattle.join.specs.Steps.{shift, centre, Halved, CentreSizes, MiddleSizes}
@@ -38,48 +38,39 @@ one-sign w0 w2 s δ e w = ⊎_elim (λ h. h) (λ h. subst (λ (d : Pair). Halved
 shift-is : (w0 w2 : Pair) {x s : Pair} → x ≡ plus w0 w2 → s ≡ multiple (pos 3) x → s ≡ shift w0 w2
 shift-is w0 w2 e f = f ∙ ap (multiple (pos 3)) e
 
-pub root-requires : goal.root-requires
-root-requires c = wider (omega arith) c.requires.0.discriminant
-
 pub returns-in_default : goal.returns-in_default
 returns-in_default c = writes_none (λ w h. c.in_default.ensures (centre c.args.w0 w.v c.args.w2) h.middle)
 
-pub sum-requires : goal.sum-requires
-sum-requires c = (wider (omega arith) c.requires.0.first, wider (omega arith) c.requires.0.last)
-
-pub multiple-s-requires : goal.multiple-s-requires
-multiple-s-requires c = (record { size = omega arith }, rw c.sum.ensures (wider (omega arith) (plus-within c.requires.0.first c.requires.0.last)))
-
 pub negative-requires : goal.negative-requires
-negative-requires c = wider (omega arith) (δ-within c.args.w0 c.args.d c.args.w2 c.in-Root.c c.requires.0 c.in-Root.ensures)
+negative-requires c = wider (omega arith) (δ-within c.args.w0 c.args.d c.args.w2 c.in-Some.c c.requires.0 c.in-Some.ensures)
 
 pub difference-low-requires : goal.difference-low-requires
 difference-low-requires c =
     let a = c.args in
     let p = c.requires.0 in
-    let f = c.in-Root.ensures in
+    let f = c.in-Some.ensures in
     let s-is = shift-is a.w0 a.w2 c.sum.ensures c.multiple-s.ensures in (
-      wider (omega arith) (n-within a.w0 a.d a.w2 c.in-Root.c p f s-is c.negative.ensures),
-      wider (omega arith) (s-within a.w0 a.d a.w2 c.in-Root.c p f s-is c.negative.ensures),
+      wider (omega arith) (n-within a.w0 a.d a.w2 c.in-Some.c p f s-is c.negative.ensures),
+      wider (omega arith) (s-within a.w0 a.d a.w2 c.in-Some.c p f s-is c.negative.ensures),
     )
 
 pub difference-high-requires : goal.difference-high-requires
 difference-high-requires c =
     let a = c.args in
     let p = c.requires.0 in
-    let f = c.in-Root.ensures in (
-      wider (omega arith) (δ-within a.w0 a.d a.w2 c.in-Root.c p f),
-      wider (omega arith) (s-within a.w0 a.d a.w2 c.in-Root.c p f (shift-is a.w0 a.w2 c.sum.ensures c.multiple-s.ensures) c.negative.ensures),
+    let f = c.in-Some.ensures in (
+      wider (omega arith) (δ-within a.w0 a.d a.w2 c.in-Some.c p f),
+      wider (omega arith) (s-within a.w0 a.d a.w2 c.in-Some.c p f (shift-is a.w0 a.w2 c.sum.ensures c.multiple-s.ensures) c.negative.ensures),
     )
 
-pub put_half-next-requires : goal.put_half-next-requires
-put_half-next-requires c =
+pub put_half-n-requires : goal.put_half-n-requires
+put_half-n-requires c =
     let a = c.args in
     let p = c.requires.0 in
-    let f = c.in-Root.ensures in
+    let f = c.in-Some.ensures in
     let s-is = shift-is a.w0 a.w2 c.sum.ensures c.multiple-s.ensures in
-    let n = n-within a.w0 a.d a.w2 c.in-Root.c p f s-is c.negative.ensures in
-    let s = s-within a.w0 a.d a.w2 c.in-Root.c p f s-is c.negative.ensures in
+    let n = n-within a.w0 a.d a.w2 c.in-Some.c p f s-is c.negative.ensures in
+    let s = s-within a.w0 a.d a.w2 c.in-Some.c p f s-is c.negative.ensures in
     (sized_by c.difference-low.result p (rw c.difference-low.ensures (minus-within n s)), omega (arith, c.requires.1))
 
 -- the lower double of the middle, and the higher
@@ -92,29 +83,29 @@ high_is w0 w2 δ s-is e = e ∙ ap (minus δ) s-is
 pub returns-then-is_zero : goal.returns-then-is_zero
 returns-then-is_zero c =
     let a = c.args in
-    let δ = c.in-Root.c in
-    let f = c.in-Root.ensures in
+    let δ = c.in-Some.c in
+    let f = c.in-Some.ensures in
     let low = low-is a.w0 a.w2 δ (shift-is a.w0 a.w2 c.sum.ensures c.multiple-s.ensures) c.negative.ensures c.difference-low.ensures in
     writes_as (omega arith)
     (λ w x. signs_centred a.w0 a.d a.w2 δ f.squared w (inl x))
     (λ w x. one-sign a.w0 a.w2 (shift a.w0 a.w2) δ c.if-is_zero.ensures w (centred_signs a.w0 a.d a.w2 δ f.squared w x))
-    (writes_same (λ i. Halved a.w0 (low i) a.w2) c.put_half-next.ensures)
+    (writes_same (λ i. Halved a.w0 (low i) a.w2) c.put_half-n.ensures)
 
 pub put_half-requires : goal.put_half-requires
 put_half-requires c =
     let a = c.args in
     let p = c.requires.0 in
-    let f = c.in-Root.ensures in
-    let q = c.put_half-next.ensures in
-    let h = δ-within a.w0 a.d a.w2 c.in-Root.c p f in
-    let s = s-within a.w0 a.d a.w2 c.in-Root.c p f (shift-is a.w0 a.w2 c.sum.ensures c.multiple-s.ensures) c.negative.ensures in
-    (sized_by c.difference-high.result p (rw c.difference-high.ensures (minus-within h s)), omega (arith, q.next_is, q.few, q.same_room, c.requires.1))
+    let f = c.in-Some.ensures in
+    let q = c.put_half-n.ensures in
+    let h = δ-within a.w0 a.d a.w2 c.in-Some.c p f in
+    let s = s-within a.w0 a.d a.w2 c.in-Some.c p f (shift-is a.w0 a.w2 c.sum.ensures c.multiple-s.ensures) c.negative.ensures in
+    (sized_by c.difference-high.result p (rw c.difference-high.ensures (minus-within h s)), omega (arith, q.count_is, q.few, q.same_room, c.requires.1))
 
 pub returns : goal.returns
 returns c =
     let a = c.args in
-    let δ = c.in-Root.c in
-    let f = c.in-Root.ensures in
+    let δ = c.in-Some.c in
+    let f = c.in-Some.ensures in
     let s-is = shift-is a.w0 a.w2 c.sum.ensures c.multiple-s.ensures in
     let low = low-is a.w0 a.w2 δ s-is c.negative.ensures c.difference-low.ensures in
     let high = high_is a.w0 a.w2 δ s-is c.difference-high.ensures in
@@ -122,4 +113,4 @@ returns c =
     (signs_centred a.w0 a.d a.w2 δ f.squared)
     (centred_signs a.w0 a.d a.w2 δ f.squared)
     (writes_both (halves-below a.w0 a.w2 (shift a.w0 a.w2) δ (f.sign c.if-is_zero.ensures))
-    (writes_same (λ i. Halved a.w0 (low i) a.w2) c.put_half-next.ensures) (writes_same (λ i. Halved a.w0 (high i) a.w2) c.put_half.ensures))
+    (writes_same (λ i. Halved a.w0 (low i) a.w2) c.put_half-n.ensures) (writes_same (λ i. Halved a.w0 (high i) a.w2) c.put_half.ensures))

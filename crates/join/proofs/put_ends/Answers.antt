@@ -11,9 +11,6 @@ use Rattle.join.proofs.Sizes.{product-within}
 use Rattle.join.proofs.Writing.{writes_both, writes_same}
 use Rattle.join.proofs.put_ends.Goals as goal
 
-pub product-requires : goal.product-requires
-product-requires c = let p = c.requires.0 in (wider (omega arith) p.first, wider (omega arith) p.last)
-
 pub multiple-p-requires : goal.multiple-p-requires
 multiple-p-requires c =
     let p = c.requires.0 in
@@ -26,17 +23,14 @@ p-is w0 r e f = f ∙ ap (multiple (pos 10)) e
 p-within : (w0 f r : Pair) {p : Pair} → EndSizes w0 f r → p ≡ multiple (pos 10) (times w0 r) → PartsWithin 800000 p
 p-within w0 f r h e = rw e (product-within w0 r h.first h.last)
 
-pub negative-low-requires : goal.negative-low-requires
-negative-low-requires c = wider (omega arith) c.requires.0.last
-
 pub difference-requires : goal.difference-requires
 difference-requires c =
     let a = c.args in
     let p = c.requires.0 in
     (wider (omega arith) p.fixed, wider (omega arith) (p-within a.w0 a.f a.r p (p-is a.w0 a.r c.product.ensures c.multiple-p.ensures)))
 
-pub put_both-next-requires : goal.put_both-next-requires
-put_both-next-requires c =
+pub put_both-n-requires : goal.put_both-n-requires
+put_both-n-requires c =
     let a = c.args in
     let p = c.requires.0 in
     let k = p-within a.w0 a.f a.r p (p-is a.w0 a.r c.product.ensures c.multiple-p.ensures) in (
@@ -55,9 +49,9 @@ put_both-requires c =
     let a = c.args in
     let p = c.requires.0 in
     let k = p-within a.w0 a.f a.r p (p-is a.w0 a.r c.product.ensures c.multiple-p.ensures) in
-    let q = c.put_both-next.ensures in (
+    let q = c.put_both-n.ensures in (
       record { first = p.first; discriminant = rw c.sum.ensures (plus-within p.fixed k); last = p.last },
-      omega (arith, q.next_is, q.few, q.same_room, c.requires.2),
+      omega (arith, q.count_is, q.few, q.same_room, c.requires.2),
     )
 
 pub returns : goal.returns
@@ -67,4 +61,4 @@ returns c =
     let low : c.difference.result ≡ discriminant a.f (times a.w0 (negative a.r)) = c.difference.ensures ∙ ap (minus a.f) e ∙ sym (other_end a.f a.w0 a.r) in
     let high : c.sum.result ≡ discriminant a.f (times a.w0 a.r) = c.sum.ensures ∙ ap (plus a.f) e in
     writes_both (λ u v h k. ends_below a.r c.requires.1 u v h.last k.last)
-    (writes_same (λ i. Centred a.w0 (low i) (c.negative-low.ensures i)) c.put_both-next.ensures) (writes_same (λ i. Centred a.w0 (high i) a.r) c.put_both.ensures)
+    (writes_same (λ i. Centred a.w0 (low i) (c.negative-low.ensures i)) c.put_both-n.ensures) (writes_same (λ i. Centred a.w0 (high i) a.r) c.put_both.ensures)

@@ -1,11 +1,11 @@
--- What the loops of `make` keep.
-use Prim.Native.Nat.{◌-◌}
-use lib.ListN.{length}
+-- What the loop of `make` keeps.
+use Rattle.std.proofs.Common.{◌≡◌, ◌+◌}
+use Rattle.std.specs.Iterator.Adapters.{enumerate_source, enumerate_count}
 use Rattle.make_sheet.proofs.Progress.{Progress}
 use Rattle.make_sheet.proofs.make.Given as goal
 
-abbrev pub invariant-loop-at : goal.invariant-loop-at
-invariant-loop-at l = Progress l.text l.area l.stage l.at l.number
-
-abbrev pub decreases-loop-at : goal.decreases-loop-at
-decreases-loop-at l = length l.text - l.at
+abbrev pub invariant-loop-passed : goal.invariant-loop-passed
+invariant-loop-passed l =
+    ((enumerate_source l.passed-iterator).text.now ≡ l.text)
+    × (l.sheet.area.ghost_name ≡ l.initial.sheet.area.ghost_name)
+    × Progress l.text l.sheet.area.now l.sheet.stage (enumerate_source l.passed-iterator).at (enumerate_count l.passed-iterator + 1)

@@ -1,34 +1,21 @@
--- `length` meets its contract: the length by the pre-image, or its refusal.
-use mathlib.Core.Path.{subst}
-use Rattle.curve.specs.declared.Curve.{Curve}
+-- `length` meets its contract: by the pre-image, or its refusal.
+use Rattle.std.proofs.lemmas.Result.{err_from_is_err_and}
 use Rattle.curve.specs.Curves.{points_of}
 use Rattle.curve.proofs.LegPolynomial.{points_of_length}
-use Rattle.verdict.specs.declared.Preimage.{Preimage}
-use Rattle.verdict.specs.declared.PreimageAnswer.TheVariants.{Found}
-use Rattle.verdict.specs.Promise.{Preimaged}
 use Rattle.verdict.proofs.FoundSizes.{root_small}
 use Rattle.measure.proofs.length.Goals as goal
-use Rattle.measure.proofs.length.Lts as at
-use Rattle.measure.proofs.length.Reads as reads
-use Rattle.measure.proofs.length.Tie as tie
 
--- there is a pre-image
-module _ (c : at.Past-After-known_told tie.the-claims reads.Pre reads.Post) where
-  abbrev curve : Curve
-  curve = c.args.curve
-
-  abbrev p : Preimage
-  p = c.in-Found.p
-
-  found : Preimaged (points_of curve) (Found p)
-  found = subst (Preimaged (points_of curve)) c.in-Found.is c.preimage_of.ensures
+pub returns-in_err-preimage_of : goal.returns-in_err-preimage_of
+returns-in_err-preimage_of c =
+    let p = err_from_is_err_and c.from_residual.result c.from_residual.ensures.1 in
+    rw (p.1, p.2) c.in_err-preimage_of.ensures
 
 pub length_by-requires : goal.length_by-requires
-length_by-requires c = root_small (points_of (curve c.before)) (p c.before) (found c.before) (points_of_length (curve c.before))
+length_by-requires c =
+    let curve = c.args.curve in
+    root_small (points_of curve) c.in_ok-preimage_of.field-0 c.in_ok-preimage_of.ensures (points_of_length curve)
 
-pub returns-in-Found : goal.returns-in-Found
-returns-in-Found c = let f = found c.before.before in (f.0, record { preimage = p c.before.before; is_preimage = f.1; has = c.length_by.ensures })
-
-pub returns-in-Refused : goal.returns-in-Refused
-returns-in-Refused c =
-    subst (Preimaged (points_of c.args.curve)) c.in-Refused.is c.preimage_of.ensures
+pub returns : goal.returns
+returns c =
+    let said = c.in_ok-preimage_of.ensures in
+    (said.0, record { preimage = c.in_ok-preimage_of.field-0; is_preimage = said.1; has = c.length_by.ensures })

@@ -1,29 +1,12 @@
--- `pair::product` meets its contract.
+-- `pair::product` meets its contract: the sum and the difference of two products fit.
 use mathlib.Core.Path.{refl}
-use mathlib.Core.List.{[], ◌∷◌}
-use Prim.Native.Nat.{◌^◌}
 use Rattle.whole.proofs.Wholes.{readℤ}
-use Rattle.whole.proofs.Bound.{Bounded, bounds, fits, kept}
+use Rattle.whole.proofs.Bound.{bounds, fits, kept}
 use Rattle.pair.proofs.Parts.{operations, parts_two}
 use Rattle.pair.proofs.product.Goals as goal
-use Rattle.pair.proofs.product.Lts as at
-use Rattle.pair.proofs.product.Reads as reads
-
-module _ (c : goal.After-struct_told-4-1) where
-  abbrev s : at.Start reads.Pre reads.Post
-  s = c.before.before.before.before
-
-  sizes : Bounded (2 ^ 30 ∷ 2 ^ 30 ∷ 2 ^ 30 ∷ 2 ^ 30 ∷ []) (s.args.a.re ∷ s.args.a.im ∷ s.args.b.re ∷ s.args.b.im ∷ [])
-  sizes = parts_two s.requires.0 s.requires.1
-
-pub overflow_mul-result : goal.overflow_mul-result
-overflow_mul-result c = search operations
-
-pub overflow_mul-result-2 : goal.overflow_mul-result-2
-overflow_mul-result-2 c = search operations
 
 pub overflow_sub-result : goal.overflow_sub-result
-overflow_sub-result c = bounds (sizes c) (λ ρ e k. simp (e 0, e 1, e 2, e 3, readℤ, kept k) (fits k _ refl))
+overflow_sub-result c = bounds (parts_two c.requires.0 c.requires.1) (λ ρ e k. simp (e 0, e 1, e 2, e 3, readℤ, kept k) (fits k _ refl))
 
 pub overflow_mul-result-3 : goal.overflow_mul-result-3
 overflow_mul-result-3 c = search operations
@@ -32,7 +15,13 @@ pub overflow_mul-result-4 : goal.overflow_mul-result-4
 overflow_mul-result-4 c = search operations
 
 pub overflow_add-result : goal.overflow_add-result
-overflow_add-result c = bounds (sizes c) (λ ρ e k. simp (e 0, e 1, e 2, e 3, readℤ, kept k) (fits k _ refl))
+overflow_add-result c = bounds (parts_two c.requires.0 c.requires.1) (λ ρ e k. simp (e 0, e 1, e 2, e 3, readℤ, kept k) (fits k _ refl))
 
 pub returns : goal.returns
-returns c = bounds (sizes c) (λ ρ e k. simp (e 0, e 1, e 2, e 3, readℤ, kept k))
+returns c = bounds (parts_two c.requires.0 c.requires.1) (λ ρ e k. simp (e 0, e 1, e 2, e 3, readℤ, kept k))
+
+pub overflow_mul-result : goal.overflow_mul-result
+overflow_mul-result c = search operations
+
+pub overflow_mul-result-2 : goal.overflow_mul-result-2
+overflow_mul-result-2 c = search operations

@@ -23,16 +23,17 @@ whole_root-requires t c =
       ),
     )
 
-pub returns-in_default : goal.returns-in_default
-returns-in_default t c =
-    no_lowered-root wholes_ring (octic c.args.m) (octic c.raised.result) c.raised.ensures Small (record { size = lit≤ tt }) c.in_default.ensures
+pub returns-in_err-q : goal.returns-in_err-q
+returns-in_err-q t c =
+    rw c.from_residual.ensures
+    (no_lowered-root wholes_ring (octic c.args.m) (octic c.raised.result) c.raised.ensures Small (record { size = lit≤ tt }) c.in_err-q.ensures)
 
 pub lowered-requires : goal.lowered-requires
 lowered-requires t c =
-    let answer = c.in-Root.ensures in
-    root-constant wholes_ring (octic c.args.m) (octic c.raised.result) c.raised.ensures wholes_domain (quartic c.in-Root.q) answer.squared
+    let answer = c.in_ok-q.ensures in
+    root-constant wholes_ring (octic c.args.m) (octic c.raised.result) c.raised.ensures wholes_domain (quartic c.in_ok-q.q) answer.squared
 
 pub returns : goal.returns
 returns t c =
-    lowered-root wholes_ring (octic c.args.m) (octic c.raised.result) c.raised.ensures (λ z. z.lt) (quartic c.lowered.result) (quartic c.in-Root.q)
-    c.lowered.ensures c.in-Root.ensures
+    lowered-root wholes_ring (octic c.args.m) (octic c.raised.result) c.raised.ensures (λ z. z.lt) (quartic c.lowered.result) (quartic c.in_ok-q.q)
+    c.lowered.ensures c.in_ok-q.ensures

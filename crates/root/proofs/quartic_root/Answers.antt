@@ -1,4 +1,5 @@
 -- `root::quartic_root` meets its contract. Where there is a root, its lead is s, up to the sign, so the search finds it.
+use Rattle.std.specs.Prelude.{Option, Some, None}
 use mathlib.Core.Path.{◌≡◌, sym, ap, ◌∙◌, subst}
 use mathlib.Core.List.{List}
 use mathlib.Core.Logic.{◌≢◌, ◌⊎◌, inl, inr}
@@ -12,8 +13,6 @@ use lib.Signed.{◌≤ℤ◌, ◌<ℤ◌}
 use mir.Syntax.{w64}
 use mir.Val.{to_z, of_z}
 use mir.ValLaws.{to_z-of_z}
-use Rattle.whole.specs.declared.Exact.{Exact}
-use Rattle.whole.specs.declared.Exact.TheVariants.{Whole, Fraction}
 use Rattle.whole.specs.Number.{wholes, norm_size}
 use Rattle.whole.specs.Coefficients.{at}
 use Rattle.poly.specs.Polynomials.{Same, square}
@@ -26,8 +25,7 @@ use Rattle.poly.proofs.Lists.{square-same}
 use Rattle.poly.proofs.Roots.{root_lead}
 use Rattle.poly.proofs.Wholes.{wholes_domain, whole-zero?}
 use Rattle.root.specs.declared.Octic.{Octic}
-use Rattle.root.specs.declared.Search.{Search}
-use Rattle.root.specs.declared.Search.TheVariants.{Upper, None}
+use Rattle.root.specs.declared.Quartic.{Quartic}
 use Rattle.poly.specs.Terms.{Top}
 use Rattle.root.specs.Search.{Each, UpperRoot}
 use Rattle.root.specs.Promise.{octic, quartic, Sized, Small, Positive, root_size}
@@ -52,10 +50,10 @@ module _ (m : Octic) (o : Each wholes Sized (octic m) × Top wholes (octic m) 8)
   m8-is : to_z w64 (of_z w64 m.m8) ≡ m.m8
   m8-is = to_z-of_z w64 m.m8 (fits_within (lit< tt) (o.0 8))
 
-  rooted : (r : Exact) → IsLead (to_z w64 (of_z w64 m.m8)) r → IsLead m.m8 r
+  rooted : (r : Option ℤ) → IsLead (to_z w64 (of_z w64 m.m8)) r → IsLead m.m8 r
   rooted r h = subst (λ x. IsLead x r) m8-is h
 
-  module _ (s : ℤ) (led : IsLead m.m8 (Whole s)) where
+  module _ (s : ℤ) (led : IsLead m.m8 (Some s)) where
     small : Small s
     small = record { size = root-size (nat_abs s) (omega (arith, sym (abs_times s s) ∙ ap nat_abs led.0, (o.0 8).size)) }
 
@@ -73,7 +71,7 @@ module _ (m : Octic) (o : Each wholes Sized (octic m) × Top wholes (octic m) 8)
     s-is = to_z-of_z w64 s (fits_within (lit< tt) small)
 
     -- what was found below it
-    searched : (r : Search) → IsSearch (octic m) (to_z w64 (of_z w64 s)) r → IsSearch (octic m) s r
+    searched : (r : Option Quartic) → IsSearch (octic m) (to_z w64 (of_z w64 s)) r → IsSearch (octic m) s r
     searched r h = subst (λ x. IsSearch (octic m) x r) s-is h
 
     -- of a root and its negative one has s at the fourth power
@@ -81,35 +79,36 @@ module _ (m : Octic) (o : Each wholes Sized (octic m) × Top wholes (octic m) 8)
         → (y : List ℤ) × UpperRoot wholes Small (octic m) 4 s y × Same wholes (square wholes y) (octic m)
     signed = root-upper wholes_ring wholes_domain whole-zero? Small flipped 4 o.1 led.0
 
-pub returns-in_default : goal.returns-in_default
-returns-in_default c x b h =
-    rooted c.args.m c.requires Fraction c.in_default.ensures (at wholes x 4) (root_lead wholes_ring wholes_domain whole-zero? 4 c.requires.1 x h)
+pub returns-in_err-s : goal.returns-in_err-s
+returns-in_err-s c =
+    rw c.from_residual.ensures
+    (λ x b h. rooted c.args.m c.requires None c.in_err-s.ensures (at wholes x 4) (root_lead wholes_ring wholes_domain whole-zero? 4 c.requires.1 x h))
 
 pub candidate_of-requires : goal.candidate_of-requires
 candidate_of-requires c =
     let m = c.args.m in
     let o = c.requires in
-    let s = c.in-Whole.s in
-    let led = rooted m o (Whole s) c.in-Whole.ensures in
+    let s = c.in_ok-s.s in
+    let led = rooted m o (Some s) c.in_ok-s.ensures in
     rw (s-is m o s led) (o.0, small m o s led, some_lead m o s led, led.0)
 
-pub returns-in_default-candidate_of : goal.returns-in_default-candidate_of
-returns-in_default-candidate_of c x b h =
+pub returns-in_err-q : goal.returns-in_err-q
+returns-in_err-q c =
     let m = c.args.m in
     let o = c.requires in
-    let s = c.in-Whole.s in
-    let led = rooted m o (Whole s) c.in-Whole.ensures in
-    let (y, u, e) = signed m o s led x b h in
-    searched m o s led None c.in_default-candidate_of.ensures y u
+    let s = c.in_ok-s.s in
+    let led = rooted m o (Some s) c.in_ok-s.ensures in
+    rw c.from_residual-in_err-q.ensures
+    (λ x b h. let (y, u, e) = signed m o s led x b h in searched m o s led None c.in_err-q.ensures y u)
 
 pub returns-then-same_below : goal.returns-then-same_below
 returns-then-same_below c =
     let m = c.args.m in
     let o = c.requires in
-    let s = c.in-Whole.s in
-    let q = c.in-Upper.q in
-    let led = rooted m o (Whole s) c.in-Whole.ensures in
-    let found = searched m o s led (Upper q) c.in-Upper.ensures in
+    let s = c.in_ok-s.s in
+    let q = c.in_ok-q.q in
+    let led = rooted m o (Some s) c.in_ok-s.ensures in
+    let found = searched m o s led (Some q) c.in_ok-q.ensures in
     record {
       squared = same-all wholes 4 (square wholes (quartic q)) (octic m) (λ k l. c.square.ensures k ∙ c.if-same_below.ensures k l) found.squared;
       lead = upper_lead Positive found (some m o s led);
@@ -120,10 +119,10 @@ pub returns-else-same_below : goal.returns-else-same_below
 returns-else-same_below c x b h =
     let m = c.args.m in
     let o = c.requires in
-    let s = c.in-Whole.s in
-    let q = c.in-Upper.q in
-    let led = rooted m o (Whole s) c.in-Whole.ensures in
-    let found = searched m o s led (Upper q) c.in-Upper.ensures in
+    let s = c.in_ok-s.s in
+    let q = c.in_ok-q.q in
+    let led = rooted m o (Some s) c.in_ok-s.ensures in
+    let found = searched m o s led (Some q) c.in_ok-q.ensures in
     let (y, u, e) = signed m o s led x b h in
     let once = upper-root_once (octic m) s (some_lead m o s led) found u in
     c.if-same_below.ensures (λ k l. sym (c.square.ensures k) ∙ square-same wholes_ring (quartic q) y once k ∙ e k)

@@ -1,34 +1,30 @@
 -- `locate` meets its contract: the walk remembers where the curve stands, and the mission is asked first.
-use mathlib.Core.Path.{◌≡◌, sym, ap, ◌∙◌}
-use mathlib.Core.Bool.{Bool, false}
+use mathlib.Core.Path.{◌≡◌, refl, sym, ap, ◌∙◌}
+use mathlib.Core.Bool.{Bool}
 use Prim.Native.Nat.{ℕ}
-use Rattle.sheet.specs.declared.Mission.{Mission}
-use Rattle.sheet.specs.Survey.{survey, mission_of, is_other}
-use Rattle.sheet.proofs.Told.{forward, other_located, none_located, one_located, located_faulty}
+use Rattle.std.specs.Prelude.{Option, Some, None, ok_or}
+use Rattle.refusal.specs.declared.Refusal.TheVariants as refusal
+use Rattle.refusal.specs.Answers.{answer_at}
+use Rattle.sheet.specs.declared.Location.{Location}
+use Rattle.sheet.specs.Walks.{asked_for}
+use Rattle.sheet.specs.Survey.{is_other}
+use Rattle.sheet.proofs.Told.{other_located, asked_located}
 use Rattle.sheet.proofs.locate.Goals as goal
 
-pub mission_of-requires : goal.mission_of-requires
-mission_of-requires c = c.walk-w.ensures.end_is
-
 -- whether the sheet's mission is another
-other_is : (expected : ℕ) {own m : Mission} {b d : Bool} → m ≡ own → b ≡ is_other expected m → b ≡ d → is_other expected own ≡ d
+other_is : (expected : ℕ) {own m : Option ℕ} {b d : Bool} → m ≡ own → b ≡ is_other expected m → b ≡ d → is_other expected own ≡ d
 other_is expected m b e = ap (is_other expected) (sym m) ∙ sym b ∙ e
 
-pub returns-then-other : goal.returns-then-other
-returns-then-other c =
-    other_located c.walk-w.ensures _ c.in-Sound.is (other_is c.args.mission c.mission_of.ensures c.is_other-other.ensures c.if-other.true) c.nowhere.ensures
+pub returns-then-is_other : goal.returns-then-is_other
+returns-then-is_other c =
+    other_located c.walk-w.ensures _ c.in_ok-w.was (other_is c.args.mission c.mission_of.ensures c.is_other.ensures c.if-is_other.true) c.into.ensures
 
-pub returns-then-place-to : goal.returns-then-place-to
-returns-then-place-to c =
-    let own : is_other c.args.mission (mission_of (survey c.args.sheet.now).records) ≡ false = cc in
-    none_located c.walk-w.ensures _ c.in-Sound.is own c.if-place-to.true c.nowhere-then-place-to.ensures
+-- where the curve stands, or NUMBER
+asked_or : (a : Option Location) → answer_at (ok_or a (record { refusal = refusal.Number; place = 0 })) ≡ asked_for a
+asked_or None = refl
+asked_or (Some at) = refl
 
-pub overflow_sub-length : goal.overflow_sub-length
-overflow_sub-length c = forward c.walk-w.ensures
-
-pub returns-else-place-to : goal.returns-else-place-to
-returns-else-place-to c =
-    one_located c.walk-w.ensures _ c.in-Sound.is (other_is c.args.mission c.mission_of.ensures c.is_other-other.ensures c.if-other.false) c.if-place-to.false
-
-pub returns-in-Faulty : goal.returns-in-Faulty
-returns-in-Faulty c = located_faulty c.walk-w.ensures _ c.in-Faulty.is
+pub returns : goal.returns
+returns c =
+    rw (c.ok_or.ensures.value, c.into-2.ensures)
+    (asked_or c.walk-w.result.asked ∙ asked_located c.walk-w.ensures _ c.in_ok-w.was (other_is c.args.mission c.mission_of.ensures c.is_other.ensures c.if-is_other.false))

@@ -10,9 +10,9 @@ use Rattle.sheet_calls.proofs.append.Goals as goal
 pub returns-in_default : goal.returns-in_default
 returns-in_default c =
     wrong-count c.curve_in.ensures c.in_default.is
-    (settled c.coded.type_inv (c.coded.ensures ∙ ap (λ (f : Fault). code_of (refused f)) c.nowhere.ensures), refl)
+    (settled c.coded.type_inv (c.coded.ensures ∙ ap (λ (f : Fault). code_of (refused f)) c.into.ensures), refl)
 
 pub returns : goal.returns
 returns c =
-    right_count c.curve_in.ensures c.in-Curve.curve c.in-Curve.is
+    right_count c.curve_in.ensures c.in-Some.curve c.in-Some.is
     (c.append.result, c.append.ensures, settled c.changed.type_inv c.changed.ensures)

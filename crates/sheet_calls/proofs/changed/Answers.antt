@@ -1,13 +1,14 @@
 -- `changed` meets its contract.
 use mathlib.Core.Path.{sym, ap, ◌∙◌}
-use Rattle.sheet.specs.declared.Change.{Change}
+use Rattle.std.specs.Prelude.{Result}
+use Rattle.refusal.specs.declared.Fault.{Fault}
 use Rattle.record.proofs.Signs.{settled}
 use Rattle.hand.specs.Promise.{coded as code_of}
 use Rattle.sheet_calls.specs.Promise.{count_of_change}
 use Rattle.sheet_calls.proofs.changed.Goals as goal
 
-pub returns-in-Done : goal.returns-in-Done
-returns-in-Done c = sym (ap (λ (x : Change). code_of (count_of_change x)) c.in-Done.is)
+pub returns-in-Ok : goal.returns-in-Ok
+returns-in-Ok c = sym (ap (λ (x : Result (Unit {0}) Fault). code_of (count_of_change x)) c.in-Ok.is)
 
-pub returns-in-Refused : goal.returns-in-Refused
-returns-in-Refused c = settled c.coded.type_inv (c.coded.ensures ∙ sym (ap (λ (x : Change). code_of (count_of_change x)) c.in-Refused.is))
+pub returns-in-Err : goal.returns-in-Err
+returns-in-Err c = settled c.coded.type_inv (c.coded.ensures ∙ sym (ap (λ (x : Result (Unit {0}) Fault). code_of (count_of_change x)) c.in-Err.is))

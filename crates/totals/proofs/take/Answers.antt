@@ -1,16 +1,18 @@
 -- `take` meets its contract: the curves of a sound sheet, or one refusal more.
-use mathlib.Core.Path.{sym, ap, ◌∙◌, subst}
-use Prim.Native.Nat.{ℕ}
-use Rattle.totals.specs.Steps.{curves_of, CountsCurves}
-use Rattle.totals.proofs.Walked.{takes}
+use Rattle.std.proofs.Common.{sym, subst, Ok, Err}
+use Rattle.sheet.proofs.Once.{count_checked}
+use Rattle.totals.specs.declared.Totals.{Totals}
+use Rattle.totals.specs.Steps.{Takes}
+use Rattle.totals.proofs.Walked.{takes_sound, takes_refused}
 use Rattle.totals.proofs.take.Goals as goal
 
-pub count_curves-counted-requires : goal.count_curves-counted-requires
-count_curves-counted-requires c = sym (c.curves_of.ensures ∙ ap curves_of c.check-answer.ensures)
+pub count_curves-totals-requires : goal.count_curves-totals-requires
+count_curves-totals-requires c = sym (count_checked c.args.sheet.now (Ok c.in-Ok.told) c.in-Ok.ensures)
 
-pub returns : goal.returns
-returns c =
-    let s = c.args in
-    takes s.t c.count_curves-counted.result c.with_answer-totals.result s.sheet.now c.check-answer.result c.check-answer.ensures
-    (subst (λ (n : ℕ). CountsCurves s.t s.sheet.now n c.count_curves-counted.result) c.curves_of.ensures c.count_curves-counted.ensures)
-    c.with_answer-totals.ensures
+pub returns-in-Ok : goal.returns-in-Ok
+returns-in-Ok c = takes_sound c.args.t c.args.sheet.now c.count_curves-totals.result c.in-Ok.told c.in-Ok.ensures c.count_curves-totals.ensures
+
+pub returns-in-Err : goal.returns-in-Err
+returns-in-Err c =
+    subst (λ (u : Totals). Takes c.args.t c.args.sheet.now (record { totals = u; answer = Err c.in-Err.f })) (sym c.with_refused-totals.ensures)
+    (takes_refused c.args.t c.args.sheet.now c.in-Err.f c.in-Err.ensures)

@@ -1,5 +1,4 @@
 -- `unmade` meets its contract: N is no c q² where the last leg does not divide as it must.
-use Rattle.whole.proofs.Flags.{untold}
 use Rattle.bernstein.specs.Powers.{power_form}
 use Rattle.curve.specs.Steps.{legs_of}
 use Rattle.verdict.proofs.Known.{legs_small}
@@ -13,11 +12,5 @@ last_end-requires c = legs_small (legs_of c.args.legs) c.requires.0
 pub returns-then-not-last_end : goal.returns-then-not-last_end
 returns-then-not-last_end c =
     let l = c.args.legs in
-    let none = last_refused l (untold c.last_end.result c.last_end.ensures c.if-not-last_end.true-raw) in
+    let none = last_refused l c.if-not-last_end.ensures in
     (not-squared_moves (power_form (legs_of l)) none, none)
-
-pub squared-requires : goal.squared-requires
-squared-requires c = c.requires
-
-pub returns : goal.returns
-returns c = c.squared.ensures

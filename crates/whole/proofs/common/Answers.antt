@@ -1,9 +1,14 @@
 -- `whole::common` meets its contract: the odd parts' divisor, and the smaller power of 2. It divides a number that fits, so it fits.
 use mathlib.Core.Path.{sym, subst}
+use mathlib.Core.List.{[], ◌∷◌}
 use mathlib.Core.Logic.{◌≢◌}
 use Prim.Native.Nat.{ℕ, ◌*◌, ◌/◌, ◌%◌, ◌^◌, ◌≤◌, ◌<◌}
-use native.Mathlib.Nat.{mod-eq_of_lt, lt_of_le_of_lt}
+use native.Mathlib.Decide.{dec_le}
+use native.Mathlib.Nat.{mod-eq_of_lt, lt_of_le_of_lt, min-eq_left, min-eq_right}
 use native.Mathlib.Omega.{arith}
+use lib.IntN.{pos}
+use Rattle.whole.specs.Coefficients.{Greatest}
+use Rattle.whole.specs.Number.{wholes}
 use Rattle.whole.proofs.Evens.{Zeros, zeros, zeros-end, Shared, shared_greatest, greatest_shared, shared-turned, shared_le, shared_powers, with_zero}
 use Rattle.whole.proofs.common.Goals as goal
 
@@ -26,40 +31,21 @@ returns-then-a-eq0 c = shared_greatest (shared-turned (with_zero c.if-a-eq0.true
 pub returns-then-b-eq0 : goal.returns-then-b-eq0
 returns-then-b-eq0 c = shared_greatest (with_zero c.if-b-eq0.true)
 
-pub overflow_cast-i : goal.overflow_cast-i
-overflow_cast-i c = omega (arith, (zeros-a c).below)
+pub odd_common-requires : goal.odd_common-requires
+odd_common-requires c = ((zeros-a c).odd, (zeros-b c).odd)
 
-pub overflow_shr-a : goal.overflow_shr-a
-overflow_shr-a c = (zeros-a c).below
+pub returns : goal.returns
+returns c = by (dec_le (zeros c.args.a) (zeros c.args.b))
+  where
+    s : goal.Else-b-eq0
+    s = c.before.before
 
-pub overflow_cast-j : goal.overflow_cast-j
-overflow_cast-j c = omega (arith, (zeros-b c).below)
-
-pub overflow_shr-b : goal.overflow_shr-b
-overflow_shr-b c = (zeros-b c).below
-
-pub odd_common-g-requires : goal.odd_common-g-requires
-odd_common-g-requires c = ((zeros-a c).odd, (zeros-b c).odd)
-
-pub overflow_cast-result : goal.overflow_cast-result
-overflow_cast-result c = omega (arith, (zeros-a c.before.before).below)
-
-pub overflow_shl-result : goal.overflow_shl-result
-overflow_shl-result c = (zeros-a c.before.before).below
-
-pub overflow_cast-result-else-i-j : goal.overflow_cast-result-else-i-j
-overflow_cast-result-else-i-j c = omega (arith, (zeros-b c.before.before).below)
-
-pub overflow_shl-result-else-i-j : goal.overflow_shl-result-else-i-j
-overflow_shl-result-else-i-j c = (zeros-b c.before.before).below
-
-pub returns-then-i-j : goal.returns-then-i-j
-returns-then-i-j c =
-    let s = c.before.before in
-    shared_greatest (shifted_back s.if-a-eq0.false s.ranges.a.fits (zeros-a s) (zeros-b s) (omega arith) (greatest_shared c.odd_common-g.ensures))
-
-pub returns-else-i-j : goal.returns-else-i-j
-returns-else-i-j c =
-    let s = c.before.before in
-    shared_greatest
-    (shared-turned (shifted_back s.if-b-eq0.false s.ranges.b.fits (zeros-b s) (zeros-a s) (omega arith) (shared-turned (greatest_shared c.odd_common-g.ensures))))
+    by : Dec (zeros c.args.a ≤ zeros c.args.b) → Greatest wholes (pos c.args.a ∷ pos c.args.b ∷ []) (pos (c.odd_common.result * 2 ^ c.min.result % 2 ^ 64))
+    by (yes l) =
+        rw (c.min.ensures, min-eq_left l)
+        (shared_greatest (shifted_back c.if-a-eq0.false c.ranges.a.fits (zeros-a s) (zeros-b s) l (greatest_shared c.odd_common.ensures)))
+    by (no l) =
+        let k : zeros c.args.b ≤ zeros c.args.a = omega arith in
+        rw (c.min.ensures, min-eq_right k)
+        (shared_greatest
+        (shared-turned (shifted_back c.if-b-eq0.false c.ranges.b.fits (zeros-b s) (zeros-a s) k (shared-turned (greatest_shared c.odd_common.ensures)))))

@@ -1,7 +1,7 @@
 -- `whole::common_with` meets its contract, by one step of Euclid's.
 use mathlib.Core.Path.{ap}
 use Prim.Native.Nat.{◌/◌, ◌%◌}
-use native.Mathlib.Nat.{div-add-mod', pos_of_ne-zero}
+use native.Mathlib.Nat.{div-add-mod'}
 use lib.IntN.{pos}
 use Rattle.whole.proofs.Wholes.{wholes_ring}
 use Rattle.whole.proofs.Divisor.{division_common}
@@ -10,9 +10,6 @@ use Rattle.whole.proofs.common_with.Goals as goal
 
 pub returns-then-b-eq0 : goal.returns-then-b-eq0
 returns-then-b-eq0 c = shared_greatest (with_zero c.if-b-eq0.true)
-
-pub nonzero_rem-a : goal.nonzero_rem-a
-nonzero_rem-a c = pos_of_ne-zero c.if-b-eq0.false
 
 pub returns : goal.returns
 returns c =

@@ -47,25 +47,25 @@ more numbers g h i l u inv d =
 unit_divides : (d x : ℤ) → Divides wholes d (pos 1) → Divides wholes d x
 unit_divides d x h = subst (Divides wholes d) (*ℤ-1 x) (divides_multiple wholes_ring x h)
 
-pub loop-i-init : goal.loop-i-init
-loop-i-init c = (omega arith, λ d. (λ h. h.1, λ h. (divides_none wholes_ring d, h)))
+pub loop-x-init : goal.loop-x-init
+loop-x-init c d = (λ h. h.1, λ h. (divides_none wholes_ring d, h))
 
 pub returns-then-g-eq1 : goal.returns-then-g-eq1
 returns-then-g-eq1 c =
     greatest_is wholes_ring (λ d.
-    (λ h k. unit_divides d _ h, λ h. subst (λ (n : ℕ). Divides wholes d (pos n)) c.if-g-eq1.true ((c.loop-i.invariant.1 d).1 h).0))
+    (λ h k. unit_divides d _ (subst (λ (n : ℕ). Divides wholes d (pos n)) c.if-g-eq1.true h), λ h. ((c.loop-x.invariant d).1 h).0))
 
-pub loop-i-preserved : goal.loop-i-preserved
-loop-i-preserved c =
-    let s = c.before.before.before.before.before in
-    let numbers = s.args.numbers.now in
-    let x : ℤ = get_or numbers s.loop-i.i (pos 0) in
-    let size : c.size.result ≡ nat_abs x = c.size.ensures ∙ ap nat_abs (to_z-of_z w64 x (record { sfits = c.size-arg-1.given })) in
-    (omega arith, more numbers s.loop-i.g c.common_with-g.result s.loop-i.i (omega arith) (rw size at c.common_with-g.ensures) s.loop-i.invariant.1)
-
-pub returns : goal.returns
-returns c =
+pub loop-x-preserved : goal.loop-x-preserved
+loop-x-preserved c =
     let numbers = c.args.numbers.now in
-    let e : drop c.loop-i.i numbers ≡ [] = drop_of_length-le numbers {i = c.loop-i.i} (omega arith) in
+    let i = c.loop-x.x-index in
+    let x : ℤ = get_or numbers i (pos 0) in
+    let size : c.size.result ≡ nat_abs x = c.size.ensures ∙ ap nat_abs (to_z-of_z w64 x (record { sfits = omega arith })) in
+    more numbers c.loop-x.g c.common_with-g.result i c.loop-x-test.true (rw size at c.common_with-g.ensures) c.loop-x.invariant
+
+pub returns-after-loop-x : goal.returns-after-loop-x
+returns-after-loop-x c =
+    let numbers = c.args.numbers.now in
+    let e : drop c.loop-x.x-index numbers ≡ [] = drop_of_length-le numbers {i = c.loop-x.x-index} (omega arith) in
     greatest_is wholes_ring (λ d.
-    (λ h. (c.loop-i.invariant.1 d).0 (h, subst (Common wholes_ring d) (sym e) (common_nil wholes_ring d)), λ h. ((c.loop-i.invariant.1 d).1 h).0))
+    (λ h. (c.loop-x.invariant d).0 (h, subst (Common wholes_ring d) (sym e) (common_nil wholes_ring d)), λ h. ((c.loop-x.invariant d).1 h).0))

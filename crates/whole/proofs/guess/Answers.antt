@@ -4,13 +4,10 @@ use Prim.Native.Nat.{ℕ, ◌-◌, ◌*◌, ◌/◌, ◌%◌, ◌^◌, ◌≤◌
 use native.Mathlib.Nat.{mod-eq_of_lt, one-mul, lt_of_lt_of_le, lt_of_le_of_lt, le_trans, le_of_eq}
 use native.Mathlib.Omega.{arith}
 use lib.Dec.{lit<}
-use lib.Count.{count_leading_zeros, leading_le, leading_length}
+use lib.Count.{count_leading_zeros, leading_length}
 use lib.Pow.{pow_mono, pow_pos, shr_lt}
 use Rattle.whole.proofs.Squares.{newton_above, root_positive}
 use Rattle.whole.proofs.guess.Goals as goal
-
-pub overflow_sub-k : goal.overflow_sub-k
-overflow_sub-k c = leading_le 64 c.args.n
 
 module _ (c : goal.Start) where
   abbrev n : ℕ

@@ -4,7 +4,6 @@ use mathlib.Core.List.{[], ◌∷◌}
 use mathlib.Core.Logic.{◌≢◌}
 use Prim.Native.Nat.{◌*◌, ◌/◌, ◌≤◌, ◌^◌}
 use native.Mathlib.Nat.{le_refl, le_trans, mul-le-mul, div-mul-le_self}
-use lib.Dec.{lit<}
 use lib.IntN.{ℤ, pos, negsuc, neg_ℤ, nat_abs, ◌+ℤ◌, ◌-ℤ◌, ◌*ℤ◌}
 use lib.Signed.{quot_z, rem_z, ◌≤ℤ◌, ◌<ℤ◌}
 use mir.Syntax.{w64}
@@ -14,9 +13,9 @@ use Rattle.whole.specs.Promise.{Nearest}
 use Rattle.whole.proofs.Integers.{abs_zero}
 use Rattle.whole.proofs.Wholes.{readℤ, read_pos, read-negsuc, atomsℤ, ringℤ}
 use Rattle.whole.proofs.Linear.{linear, plus_parts, minus_parts, times_parts, negative_parts, abs_parts, one-part}
-use Rattle.whole.proofs.Machine.{nonzero_bits}
 use Rattle.whole.proofs.Division.{quotient-rest, abs_quotient, rest_below, quotient_fits, rest_fits}
 use Rattle.whole.proofs.nearest.Goals as goal
+use Rattle.whole.proofs.nearest.Goals.{Start, Else-half-r}
 
 -- what is left over decides
 nearest_by : {n d p rest : ℤ} → n -ℤ p *ℤ d ≡ rest → neg_ℤ d <ℤ (pos 2 *ℤ rest) → (pos 2 *ℤ rest) ≤ℤ d → Nearest n d p
@@ -35,7 +34,7 @@ half : (d : ℤ) → pos 0 <ℤ d → quot_z d (pos 2) ≡ pos (nat_abs d / 2)
 half (pos m) p = refl
 half (negsuc m) p = absurd (omega linear)
 
-module _ (s : goal.Start) where
+module _ (s : Start) where
   abbrev n : ℤ
   n = s.args.n
 
@@ -83,24 +82,12 @@ module _ (s : goal.Start) where
   gap_fits : SFits w64 (h -ℤ d)
   gap_fits = let p = s.requires in omega (linear, s.ranges.d, h-is, abs_parts d, one-part d, minus_parts h d, one-part (h -ℤ d))
 
-pub nonzero_div-q : goal.nonzero_div-q
-nonzero_div-q c = simp (to_z-of_z, c.ranges.n, c.ranges.d) (nonzero_bits c.ranges.d (nonzero c), q_fits c)
-
-pub nonzero_rem-r : goal.nonzero_rem-r
-nonzero_rem-r c = nonzero_div-q c
-
-pub nonzero_div-half : goal.nonzero_div-half
-nonzero_div-half c = simp (to_z-of_z, c.ranges.d) (lit< tt, h_fits c)
-
 -- the quotient moves only where 2 r passes d or −d
 past : (c : goal.Then-half-r) → h c.before <ℤ r c.before
 past c = let s = c.before in let k = simp (to_z-of_z, s.ranges.n, s.ranges.d, r_fits s, h_fits s) at c.if-half-r.true in omega linear
 
-not_past : (c : goal.Else-half-r) → r c.before ≤ℤ h c.before
+not_past : (c : Else-half-r) → r c.before ≤ℤ h c.before
 not_past c = let s = c.before in let k = simp (to_z-of_z, s.ranges.n, s.ranges.d, r_fits s, h_fits s) at c.if-half-r.false in omega linear
-
-pub overflow_sub-half : goal.overflow_sub-half
-overflow_sub-half c = let s = c.before in simp (to_z-of_z, s.ranges.d, h_fits s) (gap_fits s)
 
 short : (c : goal.Then-r-half) → r c.before.before ≤ℤ (h c.before.before -ℤ d c.before.before)
 short c = let s = c.before.before in let k = simp (to_z-of_z, s.ranges.n, s.ranges.d, r_fits s, h_fits s, gap_fits s) at c.if-r-half.true in omega linear

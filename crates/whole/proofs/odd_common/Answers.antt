@@ -6,28 +6,13 @@ use native.Mathlib.Omega.{arith}
 use lib.IntN.{pos}
 use Rattle.whole.specs.Coefficients.{Divides}
 use Rattle.whole.specs.Number.{wholes}
-use Rattle.whole.proofs.Evens.{both_turned, odd_part_le, odd_step, shared_greatest}
+use Rattle.whole.proofs.Evens.{both_turned, odd_step, shared_greatest}
 use Rattle.whole.proofs.odd_common.Goals as goal
-
-pub loop-x-init : goal.loop-x-init
-loop-x-init c = (c.requires.0, c.requires.1, λ d. Iff.rfl)
-
-pub odd_part-y-requires : goal.odd_part-y-requires
-odd_part-y-requires c = λ e. omega arith
-
-pub loop-x-smaller-then-x-y : goal.loop-x-smaller-then-x-y
-loop-x-smaller-then-x-y c = omega (arith, odd_part_le c.odd_part-y.ensures)
 
 pub loop-x-preserved-then-x-y : goal.loop-x-preserved-then-x-y
 loop-x-preserved-then-x-y c =
     let l = c.loop-x in
     (l.invariant.0, c.odd_part-y.ensures.odd, λ d. Iff.trans (odd_step l.invariant.0 (omega arith) c.odd_part-y.ensures d) (l.invariant.2 d))
-
-pub odd_part-x-requires : goal.odd_part-x-requires
-odd_part-x-requires c = λ e. omega arith
-
-pub loop-x-smaller : goal.loop-x-smaller
-loop-x-smaller c = omega (arith, odd_part_le c.odd_part-x.ensures)
 
 pub loop-x-preserved : goal.loop-x-preserved
 loop-x-preserved c =

@@ -1,70 +1,32 @@
--- `lines::amount_in` meets its contract: the one number that was taken is its own size, where it is not negative.
-use Rattle.std.proofs.Common.{◌≡◌, ℕ, List, [], ◌∷◌, length, get_or, refl, sym, ap, ◌∙◌, subst, arith}
-use lib.IntN.{ℤ, pos, nat_abs}
-use lib.Signed.{◌≤ℤ◌}
-use mir.Syntax.{w64}
-use mir.Val.{SFits, to_z, of_z}
+-- `lines::amount_in` meets its contract: no other number is meant than the one that was taken.
+use Rattle.std.proofs.Common.{◌≡◌, ℕ, List, [], ◌∷◌, length, get_or, refl, ap, ◌∙◌, sym, subst, arith, ℤ, pos, to_z, of_z, w64}
+use Rattle.std.specs.Int.{FitsUnsignedBits}
+use Rattle.std.proofs.lemmas.Result.{OkIff-at_ok, Ok-from_Ok_iff}
+use lib.IntN.{nat_abs}
 use mir.ValLaws.{to_z-of_z}
-use Rattle.whole.proofs.Linear.{linear}
-use Rattle.whole.proofs.Machine.{cast_asks}
 use Rattle.reading.specs.Texts.{Numbers}
-use Rattle.make_sheet.specs.declared.lines.Taken.TheVariants as taken
-use Rattle.make_sheet.specs.Sayings.{NumbersIn}
-use Rattle.make_sheet.proofs.Sentences.{one_number, one_fits, its_size, one_else}
+use Rattle.make_sheet.proofs.Sentences.{one_number, one_fits, one_else}
 use Rattle.make_sheet.proofs.lines.amount_in.Goals as goal
+use Rattle.make_sheet.proofs.lines.amount_in.Goals.{in_default-via-in-Ok+else-size-most, in_default-via-in_default}
 
--- the one number that was taken
-module _ (text : List ℕ) (from : ℕ) (numbers : List ℤ) (h : NumbersIn text from numbers taken.All) (long : length numbers ≡ 1) where
-  abbrev whole : ℤ
-  whole = get_or numbers 0 (pos 0)
+meant : (vs : List (List ℕ)) (xs : List ℤ) (n : ℕ) → length xs ≡ 1 → Numbers vs xs → Numbers vs (pos n ∷ []) → to_z w64 (of_z w64 (get_or xs 0 (pos 0))) ≡ pos n
+meant vs xs n long h k =
+    let x = get_or xs 0 (pos 0) in
+    let one = one_number xs vs x long refl h in
+    to_z-of_z w64 x (one_fits vs x one) ∙ one_else vs x (pos n) one k
 
-  one : Numbers h.0 (whole ∷ [])
-  one = one_number numbers h.0 whole long refl h.2
-
-  fits : SFits w64 whole
-  fits = one_fits h.0 whole one
-
-  same : to_z w64 (of_z w64 whole) ≡ whole
-  same = to_z-of_z w64 whole fits
-
-  -- no other number is meant
-  is : (n : ℕ) → Numbers h.0 (pos n ∷ []) → to_z w64 (of_z w64 whole) ≡ pos n
-  is n k = same ∙ one_else h.0 whole (pos n) one k
-
-pub returns-in-Wrong : goal.returns-in-Wrong
-returns-in-Wrong c =
-    let (within, (vs, words, never)) = c.in-Wrong.ensures in
-    (within, (vs, words, λ n l h. never (pos n ∷ []) (sym c.take_numbers.auto.out) h))
-
-pub returns-then-x-lt0 : goal.returns-then-x-lt0
-returns-then-x-lt0 c =
-    let out = c.take_numbers.new.out in
-    let h = subst (NumbersIn c.args.text.now c.args.from out) c.in_default.is c.take_numbers.ensures in
-    (c.find-place.ensures.within, (h.0, h.1, λ n l k. omega (linear, c.if-x-lt0.true, is c.args.text.now c.args.from out h c.take_numbers.auto.out n k)))
-
-pub overflow_cast-size : goal.overflow_cast-size
-overflow_cast-size c =
-    let out = c.take_numbers.new.out in
-    let h = subst (NumbersIn c.args.text.now c.args.from out) c.in_default.is c.take_numbers.ensures in
-    let x = get_or out 0 (pos 0) in
-    let not-below : pos 0 ≤ℤ to_z w64 (of_z w64 x) = omega (linear, c.if-x-lt0.false) in
-    cast_asks not-below (subst (SFits w64) (sym (same c.args.text.now c.args.from out h c.take_numbers.auto.out)) (fits c.args.text.now c.args.from out h c.take_numbers.auto.out))
-
-pub returns-then-size-most : goal.returns-then-size-most
-returns-then-size-most c =
-    let out = c.take_numbers.new.out in
-    let h = subst (NumbersIn c.args.text.now c.args.from out) c.in_default.is c.take_numbers.ensures in
-    (c.find-place.ensures.within, (h.0, h.1, λ n l k. omega (arith, c.if-size-most.true, ap nat_abs (is c.args.text.now c.args.from out h c.take_numbers.auto.out n k))))
-
-pub returns : goal.returns
-returns c =
-    let out = c.take_numbers.new.out in
-    let h = subst (NumbersIn c.args.text.now c.args.from out) c.in_default.is c.take_numbers.ensures in
-    let x = get_or out 0 (pos 0) in
-    let not-below : pos 0 ≤ℤ to_z w64 (of_z w64 x) = omega (linear, c.if-x-lt0.false) in
-    let long = c.take_numbers.auto.out in (
-      h.0,
-      h.1,
-      subst (λ (y : ℤ). Numbers h.0 (y ∷ [])) (sym (same c.args.text.now c.args.from out h long) ∙ its_size (to_z w64 (of_z w64 x)) not-below) (one c.args.text.now c.args.from out h long),
-      omega (arith, c.if-size-most.false),
+pub returns-in_default : goal.returns-in_default
+returns-in_default c =
+    let (vs, words, h) = c.in_ok-take_numbers.ensures in (
+      omega arith,
+      (
+        vs,
+        words,
+        λ n l k.
+            let is = meant vs c.take_numbers.new.out n c.take_numbers.auto.out h k in
+            elim c.in_default.branch [
+              | in_default-via-in-Ok+else-size-most w ↦ omega (arith, w.if-size-most.false, (OkIff-at_ok _ _ _ _ c.try_from.ensures w.in-Ok.is).1, ap nat_abs is)
+              | in_default-via-in_default w ↦ w.in_default.not-Ok _ (Ok-from_Ok_iff _ _ _ c.try_from.ensures (subst (FitsUnsignedBits 64) (sym is) (omega (arith, c.ranges.most.fits))))
+            ],
+      ),
     )

@@ -1,34 +1,48 @@
 -- `lines::read_words` meets its contract: the first word, and what stands behind it.
-use Rattle.std.proofs.Common.{◌<◌, arith, length}
-use Rattle.make_sheet.specs.Sayings.{mission_word, erased_word, cubic_word, quintic_word}
-use Rattle.make_sheet.proofs.Sentences.{wrong-words, behind_says, unknown_says, nothing_said}
+use Rattle.std.proofs.Common.{ap, ◌∙◌, subst, arith, length, length-drop, drop, List, ℕ, Ok, Err}
+use Rattle.reading.specs.declared.places.Sought.TheVariants as sought
+use Rattle.reading.specs.Places.{FirstPlace, WordAt}
+use Rattle.reading.proofs.Texts.{next_word, no_word}
+use Rattle.make_sheet.specs.Sayings.{word_of, SaysBehind}
+use Rattle.make_sheet.proofs.Sentences.{behind_says, unknown_says, nothing_said}
 use Rattle.make_sheet.proofs.lines.read_words.Goals as goal
 
-pub returns-then-first-text : goal.returns-then-first-text
-returns-then-first-text c = nothing_said c.args.text.now c.find-first.result c.find-first.ensures c.if-first-text.true
+pub returns-in_default : goal.returns-in_default
+returns-in_default c =
+    let text = c.args.text.now in
+    let is = ap (λ b. b.now) c.of-words.ensures.text in
+    let none = no_word c.of-words.result c.next.new.self is c.in_default.ensures.steps in
+    record { place_within = omega arith; means = nothing_said text (subst (λ (n : ℕ). FirstPlace text n sought.Word (length text)) c.of-words.ensures.at none) }
 
-pub returns-in-Mission : goal.returns-in-Mission
-returns-in-Mission c =
-    let inside : c.find-first.result < length c.args.text.now = omega (arith, c.if-first-text.false, c.find-first.ensures.within) in
-    behind_says c.args.text.now c.find-first.result c.find-end.result c.find-first.ensures inside c.find-end.ensures mission_word c.mission.result c.in-Mission.ensures c.mission.ensures
+pub returns-in_default-form_of : goal.returns-in_default-form_of
+returns-in_default-form_of c =
+    let text = c.args.text.now in
+    let is = ap (λ b. b.now) c.of-words.ensures.text in
+    let first = c.in-Some.field-0 in
+    let h = subst (λ (n : ℕ). WordAt text n first c.next.new.self.at) c.of-words.ensures.at (next_word c.of-words.result c.next.new.self is c.in-Some.ensures.steps) in
+    record { place_within = omega (arith, h.there); means = unknown_says text first c.next.new.self.at h c.in_default-form_of.ensures }
 
-pub returns-in-Cubic : goal.returns-in-Cubic
-returns-in-Cubic c =
-    let inside : c.find-first.result < length c.args.text.now = omega (arith, c.if-first-text.false, c.find-first.ensures.within) in
-    behind_says c.args.text.now c.find-first.result c.find-end.result c.find-first.ensures inside c.find-end.ensures cubic_word c.cubic.result c.in-Cubic.ensures c.cubic.ensures
+pub returns-in-Ok : goal.returns-in-Ok
+returns-in-Ok c =
+    let text = c.args.text.now in
+    let is = ap (λ b. b.now) c.of-words.ensures.text in
+    let first = c.in-Some.field-0 in
+    let at = c.next.new.self.at in
+    let h = subst (λ (n : ℕ). WordAt text n first at) c.of-words.ensures.at (next_word c.of-words.result c.next.new.self is c.in-Some.ensures.steps) in
+    let rest = c.rest.ensures ∙ ap (λ (t : List ℕ). drop at t) (ap (λ b. b.now) c.in-Some.ensures.steps.0 ∙ is) in
+    let k = subst (λ (t : List ℕ). SaysBehind (word_of c.in-Some-form_of.form) t (Ok c.in-Ok.line)) rest c.in-Ok.ensures in
+    record { place_within = omega (arith, h.there); means = behind_says text first at h (word_of c.in-Some-form_of.form) (Ok c.in-Ok.line) c.in-Some-form_of.ensures k }
 
-pub returns-in-Quintic : goal.returns-in-Quintic
-returns-in-Quintic c =
-    let inside : c.find-first.result < length c.args.text.now = omega (arith, c.if-first-text.false, c.find-first.ensures.within) in
-    behind_says c.args.text.now c.find-first.result c.find-end.result c.find-first.ensures inside c.find-end.ensures quintic_word c.quintic.result c.in-Quintic.ensures c.quintic.ensures
-
-pub returns-in-Erased : goal.returns-in-Erased
-returns-in-Erased c =
-    let inside : c.find-first.result < length c.args.text.now = omega (arith, c.if-first-text.false, c.find-first.ensures.within) in
-    behind_says c.args.text.now c.find-first.result c.find-end.result c.find-first.ensures inside c.find-end.ensures erased_word c.erased.result c.in-Erased.ensures c.erased.ensures
-
-pub returns-in-Unknown : goal.returns-in-Unknown
-returns-in-Unknown c =
-    let inside : c.find-first.result < length c.args.text.now = omega (arith, c.if-first-text.false, c.find-first.ensures.within) in
-    let none = unknown_says c.args.text.now c.find-first.result c.find-end.result c.find-first.ensures inside c.find-end.ensures c.in-Unknown.ensures in
-    wrong-words _ c.find-first.result c.args.text.now c.find-first.ensures.within c.wrong.ensures none
+pub returns-in-Err : goal.returns-in-Err
+returns-in-Err c =
+    let text = c.args.text.now in
+    let is = ap (λ b. b.now) c.of-words.ensures.text in
+    let first = c.in-Some.field-0 in
+    let at = c.next.new.self.at in
+    let h = subst (λ (n : ℕ). WordAt text n first at) c.of-words.ensures.at (next_word c.of-words.result c.next.new.self is c.in-Some.ensures.steps) in
+    let rest = c.rest.ensures ∙ ap (λ (t : List ℕ). drop at t) (ap (λ b. b.now) c.in-Some.ensures.steps.0 ∙ is) in
+    let k = subst (λ (t : List ℕ). SaysBehind (word_of c.in-Some-form_of.form) t (Err c.in-Err.wrong)) rest c.in-Err.ensures in
+    record {
+      place_within = omega (arith, k.place_within, length-drop at text, h.ends.within);
+      means = behind_says text first at h (word_of c.in-Some-form_of.form) (Err c.in-Err.wrong) c.in-Some-form_of.ensures k;
+    }

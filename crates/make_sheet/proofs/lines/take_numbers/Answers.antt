@@ -1,80 +1,67 @@
--- `lines::take_numbers` meets its contract: the words that were passed are the numbers in the area. It ends, for a word has a byte.
-use mathlib.Core.Path.{sym, subst}
-use Prim.Native.Nat.{◌+◌, ◌-◌}
-use native.Mathlib.Omega.{arith}
-use lib.IntN.{ℤ}
-use lib.ListN.{length, take, drop, set}
-use mir.Syntax.{w64}
-use mir.ValLaws.{to_z-of_z}
-use Rattle.reading.specs.declared.numbers.Number.TheVariants as number
+-- `lines::take_numbers` meets its contract: the words that were passed are the numbers in the area.
+use Rattle.std.proofs.Common.{◌≡◌, ℕ, ◌+◌, ◌≤◌, List, length, sym, ap, ◌∙◌, subst, arith, rules, ℤ, w64, Result, Ok, Err}
+use Rattle.std.specs.Prelude.{IsErrAnd}
+use Rattle.std.specs.Result.{MatchResult}
+use Rattle.reading.specs.declared.numbers.NoNumber.{NoNumber}
+use Rattle.reading.specs.declared.words.Word.{Word}
 use Rattle.reading.specs.Numbers.{IsNumber}
-use Rattle.reading.proofs.Texts.{word-long, number_fits}
-use Rattle.make_sheet.proofs.Taking.{Passed, passed_none, passed-one, passed-all, passed_else, passed-more, passed_less}
+use Rattle.make_sheet.specs.declared.lines.Wrong.{Wrong}
+use Rattle.make_sheet.specs.Sayings.{NotSoMany, NumbersIn}
+use lib.ListN.{set}
+use mir.ValLaws.{to_z-of_z}
+use Rattle.reading.proofs.Texts.{number_fits, next_word, no_word}
+use Rattle.make_sheet.proofs.Taking.{Passed, passed-one, passed-all, passed_else, passed-more, passed_less}
 use Rattle.make_sheet.proofs.lines.take_numbers.Goals as goal
 
-pub loop-at-init : goal.loop-at-init
-loop-at-init c =
-    let s = c.args in
-    passed_none s.text.now s.from c.find-at.result s.out.now c.find-at.ensures
+-- a word that is told as wrong is no number, and it is told of its place; one that is passed is a number
+module _ (word : Word) (r : Result ℤ Wrong) (P : NoNumber → Wrong → Type 0) where
+  no_number : (n : Result ℤ NoNumber) → IsNumber word.bytes.now n → MatchResult n (λ x. r ≡ Ok x) (λ e. IsErrAnd r (P e)) → ((e : NoNumber) (w : Wrong) → P e w → w.place ≡ word.place) → (w : Wrong) → r ≡ Err w → (why : NoNumber) × IsNumber word.bytes.now (Err why) × (w.place ≡ word.place)
+  no_number (Ok x) is m k w e = cc
+  no_number (Err why) is m k w e = (why, is, k why w (subst (λ (q : Result ℤ Wrong). IsErrAnd q (P why)) e m))
 
-pub returns-in-TooLarge : goal.returns-in-TooLarge
-returns-in-TooLarge c =
-    let l = c.loop-at in
-    (l.invariant.within, passed_else c.args.text.now c.args.from (length c.args.out.now) l.out l.count l.at l.invariant c.find-end.result c.loop-at-test.true c.find-end.ensures number.TooLarge tt c.in-TooLarge.ensures)
+  a_number : (n : Result ℤ NoNumber) → IsNumber word.bytes.now n → MatchResult n (λ x. r ≡ Ok x) (λ e. IsErrAnd r (P e)) → (x : ℤ) → r ≡ Ok x → IsNumber word.bytes.now (Ok x)
+  a_number (Ok y) is m x e = let same : y ≡ x = cc in subst (λ (z : ℤ). IsNumber word.bytes.now (Ok z)) same is
+  a_number (Err why) is m x e = absurd (subst (λ (q : Result ℤ Wrong). IsErrAnd q (P why)) e m)
 
-pub returns-in-None : goal.returns-in-None
-returns-in-None c =
-    let l = c.loop-at in
-    (l.invariant.within, passed_else c.args.text.now c.args.from (length c.args.out.now) l.out l.count l.at l.invariant c.find-end.result c.loop-at-test.true c.find-end.ensures number.None tt c.in-None.ensures)
+wrong_numbers : (text : List ℕ) (out : List ℤ) (r : Result (Unit {0}) Wrong) (w : Wrong) → IsErrAnd r (λ e. e ≡ w) → w.place ≤ length text → NotSoMany text (length out) → NumbersIn text out r
+wrong_numbers text out (Ok u) w e p n = absurd e
+wrong_numbers text out (Err v) w e p n = (subst (λ (x : Wrong). x.place ≤ length text) (sym e) p, n)
+
+pub returns-in_err-x : goal.returns-in_err-x
+returns-in_err-x c =
+    let l = c.loop-word in
+    let h = next_word l.word-iterator c.next.new.self l.invariant.0 c.in-Some.ensures.steps in
+    let w = c.in_err-x.field-0.0 in
+    let (why, is, at) = no_number c.in-Some.word _ _ _ c.number_in.ensures c.map_err.ensures.cases (λ e w k. search rules) w c.in_err-x.was in
+    wrong_numbers c.args.text.now l.out c.from_residual.result w c.from_residual.ensures.1 (omega (arith, h.there, at))
+    (passed_else c.args.text.now _ l.out l.count l.word-iterator.at l.invariant.1 c.in-Some.word c.next.new.self.at h why is)
 
 pub returns-then-count-out : goal.returns-then-count-out
 returns-then-count-out c =
-    let find = c in
-    let l = find in
-    let s = l.args in (
-      l.loop-at.invariant.within,
-      passed-more s.text.now s.from (length s.out.now) l.loop-at.out l.loop-at.count l.loop-at.at l.loop-at.invariant find.find-end.result find.loop-at-test.true
-          find.find-end.ensures (omega (arith, c.if-count-out.true)),
-    )
+    let l = c.loop-word in
+    let h = next_word l.word-iterator c.next.new.self l.invariant.0 c.in-Some.ensures.steps in
+    (omega (arith, h.there), passed-more c.args.text.now _ l.out l.count l.word-iterator.at l.invariant.1 c.in-Some.word c.next.new.self.at h (omega (arith, c.if-count-out.true)))
 
-pub loop-at-smaller : goal.loop-at-smaller
-loop-at-smaller c =
-    let number = c in
-    let find = number in
-    let l = find in
-    let text = l.args.text.now in
-    omega (
-      arith,
-      word-long text l.loop-at.at find.find-end.result find.find-end.ensures find.loop-at-test.true (l.loop-at.invariant.starts find.loop-at-test.true),
-      c.find-at-in-loop-at.ensures.behind,
-      c.find-at-in-loop-at.ensures.within,
+pub loop-word-preserved : goal.loop-word-preserved
+loop-word-preserved c =
+    let l = c.loop-word in
+    let text = c.args.text.now in
+    let h = next_word l.word-iterator c.next.new.self l.invariant.0 c.in-Some.ensures.steps in
+    let x = c.in_ok-x.x in
+    let n = a_number c.in-Some.word _ _ _ c.number_in.ensures c.map_err.ensures.cases x c.in_ok-x.was in (
+      ap (λ b. b.now) c.in-Some.ensures.steps.0 ∙ l.invariant.0,
+      subst (λ (y : ℤ). Passed text (length c.args.out.now) (set l.out l.count y) (l.count + 1) c.next.new.self.at) (sym (to_z-of_z w64 x (number_fits _ x n)))
+          (passed-one text _ l.out l.count l.word-iterator.at l.invariant.1 c.in-Some.word c.next.new.self.at h x n (omega (arith, c.if-count-out.false))),
     )
-
-pub loop-at-preserved : goal.loop-at-preserved
-loop-at-preserved c =
-    let known = c in
-    let read = known in
-    let find = read in
-    let l = find in
-    let s = l.args in
-    let text = s.text.now in
-    let w = take (find.find-end.result - l.loop-at.at) (drop l.loop-at.at text) in
-    let x = known.in-Of.x in
-    let n : IsNumber w (number.Of x) = subst (IsNumber w) known.in-Of.is read.number_in.ensures in
-    subst (λ (y : ℤ). Passed text s.from (length s.out.now) (set l.loop-at.out l.loop-at.count y) (l.loop-at.count + 1) c.find-at-in-loop-at.result) (sym (to_z-of_z w64 x (number_fits w x n)))
-    (passed-one text s.from (length s.out.now) l.loop-at.out l.loop-at.count l.loop-at.at l.loop-at.invariant find.find-end.result c.find-at-in-loop-at.result x find.loop-at-test.true
-    find.find-end.ensures n (omega (arith, c.if-count-out.false)) c.find-at-in-loop-at.ensures)
 
 pub returns-then-count-out-2 : goal.returns-then-count-out-2
 returns-then-count-out-2 c =
-    let l = c in
-    let s = l.args in (
-      l.loop-at.invariant.within,
-      passed_less s.text.now s.from (length s.out.now) l.loop-at.out l.loop-at.count l.loop-at.at l.loop-at.invariant (omega (arith, c.loop-at-test.false)) (omega (arith, c.if-count-out-2.true)),
-    )
+    let l = c.loop-word in
+    let h = no_word l.word-iterator c.next.new.self l.invariant.0 c.in-None.ensures.steps in
+    (omega arith, passed_less c.args.text.now _ l.out l.count l.word-iterator.at l.invariant.1 h (omega (arith, c.if-count-out-2.true)))
 
 pub returns : goal.returns
 returns c =
-    let l = c in
-    let s = l.args in
-    passed-all s.text.now s.from (length s.out.now) l.loop-at.out l.loop-at.count l.loop-at.at l.loop-at.invariant (omega (arith, c.loop-at-test.false)) (omega (arith, c.if-count-out-2.false))
+    let l = c.loop-word in
+    let h = no_word l.word-iterator c.next.new.self l.invariant.0 c.in-None.ensures.steps in
+    passed-all c.args.text.now _ l.out l.count l.word-iterator.at l.invariant.1 h (omega (arith, c.if-count-out-2.false))

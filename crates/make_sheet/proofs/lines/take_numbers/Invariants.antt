@@ -1,11 +1,7 @@
--- What the loops of `lines::take_numbers` keep.
-use Prim.Native.Nat.{◌-◌}
-use lib.ListN.{length}
+-- What the loop of `lines::take_numbers` keeps.
+use Rattle.std.proofs.Common.{◌≡◌, length}
 use Rattle.make_sheet.proofs.Taking.{Passed}
 use Rattle.make_sheet.proofs.lines.take_numbers.Given as goal
 
-abbrev pub invariant-loop-at : goal.invariant-loop-at
-invariant-loop-at l = Passed l.text l.from (length l.initial.out) l.out l.count l.at
-
-abbrev pub decreases-loop-at : goal.decreases-loop-at
-decreases-loop-at l = length l.text - l.at
+abbrev pub invariant-loop-word : goal.invariant-loop-word
+invariant-loop-word l = (l.word-iterator.text.now ≡ l.text) × Passed l.text (length l.initial.out) l.out l.count l.word-iterator.at

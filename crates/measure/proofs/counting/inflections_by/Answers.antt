@@ -4,5 +4,5 @@ use Rattle.measure.specs.Steps.{Moderate}
 use Rattle.measure.proofs.Sizes.{turning_moderate}
 use Rattle.measure.proofs.counting.inflections_by.Goals as goal
 
-pub count-count-requires : goal.count-count-requires
-count-count-requires c = subst Moderate (sym c.turning-turning.ensures) (turning_moderate c.args.w c.requires)
+pub count-requires : goal.count-requires
+count-requires c = subst Moderate (sym c.turning-turning.ensures) (turning_moderate c.args.w c.requires)

@@ -14,12 +14,10 @@ use Rattle.whole.proofs.Integers.{*ℤ-1}
 use Rattle.whole.proofs.Linear.{linear}
 use Rattle.whole.proofs.Wholes.{readℤ}
 use Rattle.whole.proofs.Bound.{done, ◌▸◌, bounds, fits, kept, within, read_back}
+use Rattle.root.specs.declared.Quartic.{Quartic}
 use Rattle.root.specs.Promise.{quartic}
-use Rattle.offset.specs.Steps.{IsPath}
+use Rattle.offset.specs.Steps.{PathAsked, IsPath}
 use Rattle.offset.proofs.terms.path.Goals as goal
-use Rattle.offset.proofs.terms.path.Lts as at
-use Rattle.offset.proofs.terms.path.Reads as reads
-use Rattle.offset.proofs.terms.path.Tie as tie
 
 -- n times a coefficient of d
 module _ {x y : ℤ} (h : Within 1280000 x) (k : Within 5 y) where
@@ -32,60 +30,54 @@ module _ {x y : ℤ} (h : Within 1280000 x) (k : Within 5 y) where
   product-within : Within norm_size (x *ℤ y)
   product-within = bounds (h ▸ k ▸ done) (λ ρ e k. simp (e 0, e 1, readℤ) (within k _ refl))
 
-module _ (c : goal.After-struct_told-5-1) where
-  abbrev o : at.Start tie.the-claims reads.Pre reads.Post
-  o = c.before.before.before.before.before
-
-  d : (k : ℕ) → Within 1280000 (at wholes (quartic o.args.d) k)
-  d = o.requires.small
-
-  n : Within 5 o.args.n
-  n = o.requires.n_small
-
+module _ (d : Quartic) (n : ℤ) (o : PathAsked (quartic d) n) where
   abbrev times_n : ℕ → ℤ
-  times_n k = to_z w64 (of_z w64 (to_z w64 (of_z w64 (at wholes (quartic o.args.d) k)) *ℤ to_z w64 (of_z w64 o.args.n)))
+  times_n k = to_z w64 (of_z w64 (to_z w64 (of_z w64 (at wholes (quartic d) k)) *ℤ to_z w64 (of_z w64 n)))
 
-  times-n-is : (k : ℕ) → times_n k ≡ at wholes (quartic o.args.d) k *ℤ o.args.n
-  times-n-is k = product_is (d k) n
+  times-n-is : (k : ℕ) → times_n k ≡ at wholes (quartic d) k *ℤ n
+  times-n-is k = product_is (o.small k) o.n_small
+
+  fitting : (k : ℕ) → SFits w64 (to_z w64 (of_z w64 (at wholes (quartic d) k)) *ℤ to_z w64 (of_z w64 n))
+  fitting k = product_fits (o.small k) o.n_small
 
   shares : (k : ℕ) → k ≤ 4 → Shares (times_n k) (pos (suc k))
   shares k l = record {
-    whole = subst (Divides wholes (pos (suc k))) (sym (times-n-is k)) (o.requires.whole k);
+    whole = subst (Divides wholes (pos (suc k))) (sym (times-n-is k)) (o.whole k);
     positive = omega linear;
-    n_small = subst (Within norm_size) (sym (times-n-is k)) (product-within (d k) n);
+    n_small = subst (Within norm_size) (sym (times-n-is k)) (product-within (o.small k) o.n_small);
     d_small = record { size = omega arith };
   }
 
   -- what `share` answers
-  shared : (k : ℕ) {r : ℤ} → (pos (suc k) *ℤ r ≡ times_n k) × Within norm_size r → pos (suc k) *ℤ to_z w64 (of_z w64 r) ≡ at wholes (quartic o.args.d) k *ℤ o.args.n
+  shared : (k : ℕ) {r : ℤ} → (pos (suc k) *ℤ r ≡ times_n k) × Within norm_size r → pos (suc k) *ℤ to_z w64 (of_z w64 r) ≡ at wholes (quartic d) k *ℤ n
   shared k (e, h) = ap (λ z. pos (suc k) *ℤ z) (read_back tt h) ∙ e ∙ times-n-is k
 
-pub overflow_mul-x1 : goal.overflow_mul-x1
-overflow_mul-x1 c = product_fits (d c 0) (n c)
+pub overflow_mul-result : goal.overflow_mul-result
+overflow_mul-result c = fitting c.args.d c.args.n c.requires 0
 
-pub overflow_mul-d1 : goal.overflow_mul-d1
-overflow_mul-d1 c = product_fits (d c 1) (n c)
+pub overflow_mul-d : goal.overflow_mul-d
+overflow_mul-d c = fitting c.args.d c.args.n c.requires 1
 
-pub share-x2-requires : goal.share-x2-requires
-share-x2-requires c = shares c 1 (omega arith)
+pub share-requires : goal.share-requires
+share-requires c = shares c.args.d c.args.n c.requires 1 (omega arith)
 
-pub overflow_mul-d2 : goal.overflow_mul-d2
-overflow_mul-d2 c = product_fits (d c.before 2) (n c.before)
+pub overflow_mul-d-2 : goal.overflow_mul-d-2
+overflow_mul-d-2 c = fitting c.args.d c.args.n c.requires 2
 
-pub share-x3-requires : goal.share-x3-requires
-share-x3-requires c = shares c.before 2 (omega arith)
+pub share-requires-2 : goal.share-requires-2
+share-requires-2 c = shares c.args.d c.args.n c.requires 2 (omega arith)
 
-pub overflow_mul-d3 : goal.overflow_mul-d3
-overflow_mul-d3 c = product_fits (d c.before.before 3) (n c.before.before)
+pub overflow_mul-d-3 : goal.overflow_mul-d-3
+overflow_mul-d-3 c = fitting c.args.d c.args.n c.requires 3
 
-pub share-x4-requires : goal.share-x4-requires
-share-x4-requires c = shares c.before.before 3 (omega arith)
+pub share-requires-3 : goal.share-requires-3
+share-requires-3 c = shares c.args.d c.args.n c.requires 3 (omega arith)
 
-pub overflow_mul-d4 : goal.overflow_mul-d4
-overflow_mul-d4 c = product_fits (d c.before.before.before 4) (n c.before.before.before)
+pub overflow_mul-d-4 : goal.overflow_mul-d-4
+overflow_mul-d-4 c = fitting c.args.d c.args.n c.requires 4
 
-pub share-x5-requires : goal.share-x5-requires
-share-x5-requires c = shares c.before.before.before 4 (omega arith)
+pub share-requires-4 : goal.share-requires-4
+share-requires-4 c = shares c.args.d c.args.n c.requires 4 (omega arith)
 
 -- from the equation of each coefficient
 is-path : {start n d0 d1 d2 d3 d4 x0 x1 x2 x3 x4 x5 : ℤ} → x0 ≡ start → x1 ≡ d0 *ℤ n → pos 2 *ℤ x2 ≡ d1 *ℤ n → pos 3 *ℤ x3 ≡ d2 *ℤ n → pos 4 *ℤ x4 ≡ d3 *ℤ n
@@ -102,6 +94,7 @@ is-path {n} {d0} {d1} {d2} {d3} {d4} {x0} {x1} {x2} {x3} {x4} {x5} e e0 e1 e2 e3
 
 pub returns : goal.returns
 returns c =
-    let s = c.before.before.before.before in
-    is-path (to_z-of_z w64 (o s).args.start (o s).ranges.start) (times-n-is s 0) (shared s 1 c.share-x2.ensures) (shared s 2 c.share-x3.ensures)
-    (shared s 3 c.share-x4.ensures) (shared s 4 c.share-x5.ensures)
+    let s = c.args in
+    let o = c.requires in
+    is-path (to_z-of_z w64 s.start c.ranges.start) (times-n-is s.d s.n o 0) (shared s.d s.n o 1 c.share.ensures) (shared s.d s.n o 2 c.share-2.ensures)
+    (shared s.d s.n o 3 c.share-3.ensures) (shared s.d s.n o 4 c.share-4.ensures)

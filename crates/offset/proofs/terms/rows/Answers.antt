@@ -11,7 +11,7 @@ use Rattle.whole.specs.Coefficients.{at}
 use Rattle.poly.specs.Polynomials.{Same}
 use Rattle.whole.specs.Number.{wholes, Within}
 use Rattle.whole.proofs.Wholes.{readℤ}
-use Rattle.whole.proofs.Bound.{done, ◌▸◌, bounds, fits, kept, within, read_back}
+use Rattle.whole.proofs.Bound.{done, ◌▸◌, bounds, kept, within, read_back}
 use Rattle.pair.specs.declared.Pair.{Pair}
 use Rattle.pair.specs.Pairs.{pairs, PartsWithin}
 use Rattle.root.specs.declared.Quartic.{Quartic}
@@ -26,27 +26,22 @@ use Rattle.curve.proofs.LegPolynomial.{points_of_length, legs-within}
 use Rattle.curve.proofs.Sizes.{leg_polynomial-within}
 use Rattle.curve.proofs.Derivative.{start-within, power_form-within}
 use Rattle.curve.specs.Sizes.{leg_reach, coordinate_reach}
-use Rattle.offset.specs.Steps.{coordinate_of, nonic, PathAsked, IsPath, RowAsked}
+use Rattle.offset.specs.Steps.{PathAsked, IsPath, RowAsked}
 use Rattle.offset.proofs.Products.{row_size, row_size-most, row_sized}
 use Rattle.offset.proofs.Paths.{path-asked, path-is, coordinate, weight-least, weight-size, weighted_of}
 use Rattle.offset.proofs.terms.rows.Goals as goal
-use Rattle.offset.proofs.terms.rows.Lts as at
-use Rattle.offset.proofs.terms.rows.Reads as reads
-use Rattle.offset.proofs.terms.rows.Tie as tie
-
-pub legs_of-requires : goal.legs_of-requires
-legs_of-requires c = c.requires.range
+use Rattle.offset.proofs.terms.rows.Goals.{Start, After-drawn-d, After-imaginaries-im}
 
 pub drawn-d-requires : goal.drawn-d-requires
 drawn-d-requires c k =
     subst (λ (l : List Pair). PartsWithin leg_reach (at pairs l k)) (sym c.legs_of.ensures) (legs-within (points_of c.args.curve) c.requires.range k)
 
 -- ---- what is known of D and of r, once D is drawn
-module _ (c : at.After-imaginaries tie.the-claims reads.Pre reads.Post) where
-  abbrev drew : at.After-drawn tie.the-claims reads.Pre reads.Post
+module _ (c : After-imaginaries-im) where
+  abbrev drew : After-drawn-d
   drew = c.before.before
 
-  abbrev o : at.Start tie.the-claims reads.Pre reads.Post
+  abbrev o : Start
   o = drew.before.before.before.before
 
   abbrev ps : List Pair
@@ -102,7 +97,7 @@ path-y-requires c = im-asked c.before.before.before.before
 
 -- ---- what is known of r, once its paths are made
 module _ (c : goal.After-path-y) where
-  abbrev g : at.After-imaginaries tie.the-claims reads.Pre reads.Post
+  abbrev g : After-imaginaries-im
   g = c.before.before.before.before
 
   start_small : PartsWithin coordinate_reach (drew g).start-p.result
@@ -115,16 +110,22 @@ module _ (c : goal.After-path-y) where
   start-im = read_back tt start_small.im ∙ ap (λ (z : Pair). z.im) (drew g).start-p.ensures
 
   abbrev x : List ℤ
-  x = coordinate_of c.path-x.result
+  x = c.path-x.result
 
   abbrev y : List ℤ
-  y = coordinate_of c.path-y.result
+  y = c.path-y.result
 
   x-is : (k : ℕ) → at wholes x k ≡ (at pairs (power_form (ps g)) k).re
   x-is = path-is re-part (ps g) (quartic (re g)) (re-is g) x (subst (λ X. X) (λ i. IsPath (start-re i) (quartic (re g)) (n-is g i) x) c.path-x.ensures)
 
   y-is : (k : ℕ) → at wholes y k ≡ (at pairs (power_form (ps g)) k).im
   y-is = path-is im-part (ps g) (quartic (im g)) (im-is g) y (subst (λ X. X) (λ i. IsPath (start-im i) (quartic (im g)) (n-is g i) y) c.path-y.ensures)
+
+  x_long : length x ≤ 6
+  x_long = omega (arith, c.path-x.type_inv)
+
+  y_long : length y ≤ 6
+  y_long = omega (arith, c.path-y.type_inv)
 
   abbrev h : ℤ
   h = (o g).args.h
@@ -154,17 +155,11 @@ module _ (c : goal.After-path-y) where
     d_small = re_small g;
   }
 
-pub overflow_sub-g : goal.overflow_sub-g
-overflow_sub-g c = bounds ((o (g c)).requires.h_small ▸ done) (λ ρ e k. simp (e 0, +ℤ_idl, readℤ, kept k) (fits k _ refl))
-
 pub row-a-requires : goal.row-a-requires
 row-a-requires c = x-asked c
 
 pub row-b-requires : goal.row-b-requires
 row-b-requires c = y-asked c.before (bounds ((o (g c.before)).requires.h_small ▸ done) (λ ρ e k. simp (e 0, +ℤ_idl, readℤ, kept k) (within k _ refl)))
-
-pub extended-c-requires : goal.extended-c-requires
-extended-c-requires c = (o (g c.before.before)).requires.w_small
 
 -- ---- the rows and their weights
 module _ (c : goal.After-weights-s) where
@@ -174,16 +169,16 @@ module _ (c : goal.After-weights-s) where
   abbrev curve : Curve
   curve = (o (g p)).args.curve
 
-  x-sized : (k : ℕ) → Within (row_size 5 k) (at wholes (nonic c.row-a.result) k)
-  x-sized = row_sized (nonic c.row-a.result) (x-asked p) (omega arith) (omega arith) c.row-a.ensures
+  x-sized : (k : ℕ) → Within (row_size 5 k) (at wholes c.row-a.result k)
+  x-sized = row_sized c.row-a.result (x-asked p) (x_long p) (omega arith) (omega arith) c.row-a.ensures
 
-  y-sized : (k : ℕ) → Within (row_size 5 k) (at wholes (nonic c.row-b.result) k)
-  y-sized = row_sized (nonic c.row-b.result) (y-asked p (subst (Within coordinate_reach) (sym (less_is p)) (less_small p))) (omega arith) (omega arith) c.row-b.ensures
+  y-sized : (k : ℕ) → Within (row_size 5 k) (at wholes c.row-b.result k)
+  y-sized = row_sized c.row-b.result (y-asked p (subst (Within coordinate_reach) (sym (less_is p)) (less_small p))) (y_long p) (omega arith) (omega arith) c.row-b.ensures
 
-  w-sized : (k : ℕ) → Within root_size (at wholes (nonic c.extended-c.result) k)
+  w-sized : (k : ℕ) → Within root_size (at wholes c.extended-c.result k)
   w-sized k = rw (c.extended-c.ensures k) ((o (g p)).requires.w_small k)
 
-  s-sized : (k : ℕ) → Within 252 (at wholes (nonic c.weights-s.result) k)
+  s-sized : (k : ℕ) → Within 252 (at wholes c.weights-s.result k)
   s-sized k = rw (c.weights-s.ensures k) (record { size = weight-least curve k })
 
 pub weighted-ws-requires : goal.weighted-ws-requires
@@ -200,12 +195,12 @@ returns c =
     let s = c.before.before.before in
     let t = p s in
     record {
-      w = weighted_of (curve s) (nonic c.extended-c.result) (nonic c.weights-s.result) _ (λ k. root_size) c.weights-s.ensures c.weighted-ws.ensures c.extended-c.ensures (w-sized s)
+      w = weighted_of (curve s) c.extended-c.result c.weights-s.result _ (λ k. root_size) c.weights-s.ensures c.weighted-ws.ensures c.extended-c.ensures (w-sized s)
           (λ k. omega (arith, weight-least (curve s) k));
-      x = weighted_of (curve s) (nonic c.row-a.result) (nonic c.weights-s.result) _ (row_size 5) c.weights-s.ensures c.weighted-xs.ensures
-          (coordinate re-part im-part (ps (g t)) (quartic (o (g t)).args.w) (x t) (quartic (im (g t))) (nonic c.row-a.result) (h t) (x-is t) (im-is (g t)) (rw (h-kept t) at c.row-a.ensures))
+      x = weighted_of (curve s) c.row-a.result c.weights-s.result _ (row_size 5) c.weights-s.ensures c.weighted-xs.ensures
+          (coordinate re-part im-part (ps (g t)) (quartic (o (g t)).args.w) (x t) (quartic (im (g t))) c.row-a.result (h t) (x-is t) (im-is (g t)) (rw (h-kept t) at c.row-a.ensures))
           (x-sized s) (weight-size (curve s));
-      y = weighted_of (curve s) (nonic c.row-b.result) (nonic c.weights-s.result) _ (row_size 5) c.weights-s.ensures c.weighted-ys.ensures
-          (coordinate im-part re-part (ps (g t)) (quartic (o (g t)).args.w) (y t) (quartic (re (g t))) (nonic c.row-b.result) (neg_ℤ (h t)) (y-is t) (re-is (g t)) (rw (less_is t) at c.row-b.ensures))
+      y = weighted_of (curve s) c.row-b.result c.weights-s.result _ (row_size 5) c.weights-s.ensures c.weighted-ys.ensures
+          (coordinate im-part re-part (ps (g t)) (quartic (o (g t)).args.w) (y t) (quartic (re (g t))) c.row-b.result (neg_ℤ (h t)) (y-is t) (re-is (g t)) (rw (less_is t) at c.row-b.ensures))
           (y-sized s) (weight-size (curve s));
     }

@@ -1,4 +1,4 @@
--- `walks::quintic_in` meets its contract: the points are those of the record, one by one.
+-- `points::quintic_in` meets its contract: the points are those of the record, one by one.
 use mathlib.Core.Path.{◌≡◌}
 use mathlib.Core.List.{[], ◌∷◌}
 use Prim.Native.Nat.{◌-◌, ◌/◌}

@@ -8,6 +8,6 @@ pub returns-then-erased-left : goal.returns-then-erased-left
 unfolding erased_end when◌then◌else◌
 returns-then-erased-left c = rw (lt-ltb _ _ c.if-erased-left.true)
 
-pub returns-else-erased-left : goal.returns-else-erased-left
+pub returns : goal.returns
 unfolding erased_end when◌then◌else◌
-returns-else-erased-left c = rw (le-ltb _ _ c.if-erased-left.false)
+returns c = rw (le-ltb _ _ c.if-erased-left.false)

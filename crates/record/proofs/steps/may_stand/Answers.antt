@@ -1,15 +1,19 @@
--- `steps::may_stand` meets its contract: the row tells.
-use mathlib.Core.Path.{ap}
-use mathlib.Core.Bool.{not}
+-- `steps::may_stand` meets its contract: the table's flag and the place's are the same.
+use mathlib.Core.Path.{◌≡◌, refl, ap, ◌∙◌}
+use mathlib.Core.Bool.{Bool, true, false, not, beq}
 use Rattle.refusal.specs.Answers.{when◌then◌else◌}
 use Rattle.record.specs.declared.kinds.Row.{Row}
+use Rattle.record.specs.Kinds.{row_of}
 use Rattle.record.specs.Records.{may_stand}
 use Rattle.record.proofs.steps.may_stand.Goals as goal
 
-pub returns-then-first : goal.returns-then-first
-unfolding may_stand when◌then◌else◌
-returns-then-first c = rw c.if-first.true (ap (λ (r : Row). r.first) c.row_of-row.ensures)
+same : (b first : Bool) → beq b first ≡ (when first then b else not b)
+unfolding when◌then◌else◌
+same true true = refl
+same true false = refl
+same false true = refl
+same false false = refl
 
-pub returns-else-first : goal.returns-else-first
-unfolding may_stand when◌then◌else◌
-returns-else-first c = rw c.if-first.false (ap (λ (r : Row). not r.first) c.row_of-row.ensures)
+pub returns : goal.returns
+unfolding may_stand
+returns c = ap (λ (r : Row). beq r.first c.args.first) c.row_of.ensures ∙ same (row_of c.args.kind).first c.args.first

@@ -12,7 +12,8 @@ use Rattle.refusal.specs.declared.Refusal.TheVariants as refusal
 use Rattle.refusal.specs.Answers.{when◌then◌else◌}
 use Rattle.record.specs.declared.kinds.Kind.{Kind}
 use Rattle.record.specs.declared.kinds.Row.{Row}
-use Rattle.record.specs.declared.steps.Step.TheVariants.{Fault, Record}
+use Rattle.record.specs.Records.{slip}
+use Rattle.std.specs.Prelude.{Some, Ok, Err}
 use Rattle.record.specs.Numbers.{size_of, coordinates}
 use Rattle.record.specs.Kinds.{row_of, words as words_of}
 use Rattle.record.specs.Records.{may_stand, all_within, sized_step, step_of}
@@ -32,22 +33,22 @@ module _ (kind : Kind) (rest : List ℕ) (bytes : (i : ℕ) → Fits w8 (get_or 
   step_is : step_of first rest ≡ sized_step kind rest
   step_is = headed_step kind rest bytes h.1 first h.0
 
-  cut_short : length rest < row.size → Fault refusal.Cut 0 ≡ step_of first rest
+  cut_short : length rest < row.size → slip refusal.Cut 0 ≡ step_of first rest
   unfolding sized_step when◌then◌else◌
   cut_short short = rw (step_is, eq-eqb _ _ sized, lt-ltb _ _ (rw size_is at short))
 
   -- by the test of the coordinates, as many as the table says
   module _ (long : row.size ≤ length rest) {b : Bool} (range : b ≡ all_within (coordinates (words_of kind) rest 4)) where
-    found : b ≡ true → Record kind ≡ step_of first rest
+    found : b ≡ true → Ok (Some kind) ≡ step_of first rest
     unfolding sized_step when◌then◌else◌
     found e = rw (step_is, eq-eqb _ _ sized, le-ltb _ _ (rw size_is at long), sym range ∙ e)
 
-    out_of_range : b ≡ false → Fault refusal.Range 0 ≡ step_of first rest
+    out_of_range : b ≡ false → slip refusal.Range 0 ≡ step_of first rest
     unfolding sized_step when◌then◌else◌
     out_of_range e = rw (step_is, eq-eqb _ _ sized, le-ltb _ _ (rw size_is at long), sym range ∙ e)
 
 pub returns-then-rest-row_of : goal.returns-then-rest-row_of
-returns-then-rest-row_of c = cut_short c.args.kind c.args.rest.now c.type_inv.rest c.args.first c.requires c.row_of.ensures c.if-rest-row_of.true
+returns-then-rest-row_of c = ap Err c.into.ensures ∙ cut_short c.args.kind c.args.rest.now c.type_inv.rest c.args.first c.requires c.row_of.ensures c.if-rest-row_of.true
 
 pub all_within-requires : goal.all_within-requires
 all_within-requires c =
@@ -64,5 +65,5 @@ returns-then-all_within c =
 
 pub returns-else-all_within : goal.returns-else-all_within
 returns-else-all_within c =
-    out_of_range c.args.kind c.args.rest.now c.type_inv.rest c.args.first c.requires c.row_of.ensures c.if-rest-row_of.false
+    ap Err c.into-else-all_within.ensures ∙ out_of_range c.args.kind c.args.rest.now c.type_inv.rest c.args.first c.requires c.row_of.ensures c.if-rest-row_of.false
     (range_is c.args.kind c.args.rest.now c.all_within.ensures c.words.ensures) c.if-all_within.false

@@ -36,23 +36,13 @@ returns-then-not-within c = at_range _ _ _ _ (sym c.numbers_within-within.ensure
 pub returns-then-left-size : goal.returns-then-left-size
 returns-then-left-size c =
     let within : all_within c.args.xs.now ≡ true = cc in
-    at_room _ _ _ _ within (omega (arith, size_is _ c.row_of-size.ensures, c.left_at-left.ensures, c.if-left-size.true))
-
-pub overflow_add-at : goal.overflow_add-at
-overflow_add-at c = omega (arith, room c.args.bytes.now c.args.at c.row_of-size.result.size c.left_at-left.ensures c.if-left-size.false (some c.args.kind c.row_of-size.ensures))
-
-pub put_record-requires : goal.put_record-requires
-put_record-requires c = (
-  part-long c.args.bytes.now c.args.at c.row_of-size.result.size c.left_at-left.ensures c.if-left-size.false (some c.args.kind c.row_of-size.ensures) ∙ size_is _ c.row_of-size.ensures,
-  c.requires,
-  sym c.numbers_within-within.ensures ∙ c.if-not-within.false,
-)
+    at_room _ _ _ _ within (omega (arith, size_is _ c.row_of-size.ensures, c.saturating_sub-left.ensures, c.if-left-size.true))
 
 pub returns : goal.returns
 returns c =
     let bytes = c.args.bytes.now in
     let at = c.args.at in
     let size = c.row_of-size.result.size in
-    at_done _ _ _ _ (sym c.numbers_within-within.ensures ∙ c.if-not-within.false) (omega (arith, size_is _ c.row_of-size.ensures, c.left_at-left.ensures, c.if-left-size.false))
-    (put_back bytes at size c.put_record.new.bytes (c.put_record.auto.bytes ∙ part-long bytes at size c.left_at-left.ensures c.if-left-size.false (some c.args.kind c.row_of-size.ensures))
+    at_done _ _ _ _ (sym c.numbers_within-within.ensures ∙ c.if-not-within.false) (omega (arith, size_is _ c.row_of-size.ensures, c.saturating_sub-left.ensures, c.if-left-size.false))
+    (put_back bytes at size c.put_record.new.bytes (c.put_record.auto.bytes ∙ part-long bytes at size c.saturating_sub-left.ensures c.if-left-size.false (some c.args.kind c.row_of-size.ensures))
     ∙ ap (written bytes at) c.put_record.ensures)

@@ -2,7 +2,7 @@
 use mathlib.Core.Bool.{true}
 use mathlib.Core.List.{List}
 use mathlib.Core.Path.{◌≡◌, refl, sym, ap, ◌∙◌, subst}
-use Prim.Native.Nat.{ℕ, ◌<◌}
+use Prim.Native.Nat.{ℕ, ◌+◌, ◌*◌, ◌<◌}
 use native.Mathlib.Omega.{arith}
 use lib.IntN.{ℤ, pos}
 use lib.ListN.{length, get_or}
@@ -17,11 +17,8 @@ use Rattle.record.specs.Numbers.{bits as bits_of, word_bytes}
 use Rattle.record.specs.Numbers.{written}
 use Rattle.record.specs.Records.{all_within}
 use Rattle.record.proofs.Loops.{numbers-at}
-use Rattle.record.proofs.Pieces.{words-none, words_more, words-all}
+use Rattle.record.proofs.Pieces.{words_more, words-all}
 use Rattle.record.proofs.writes.put_numbers.Goals as goal
-
-pub loop-i-init : goal.loop-i-init
-loop-i-init c = (words-none _, refl, omega arith, omega arith)
 
 -- the number that is written in this turn
 module _ (xs : List ℤ) (i : ℕ) (all : all_within xs ≡ true) (more : i < length xs) where
@@ -36,22 +33,14 @@ bits-requires c =
     let xs = c.args.xs.now in
     subst (Within coordinate_reach) (sym (x-kept xs c.loop-i.i c.requires.1 c.loop-i-test.true)) (x-within xs c.loop-i.i c.requires.1 c.loop-i-test.true)
 
-pub put_word-requires : goal.put_word-requires
-put_word-requires c = omega (arith, c.requires.0)
-
-pub overflow_add-at : goal.overflow_add-at
-overflow_add-at c = omega (arith, c.requires.0, c.loop-i.invariant)
-
 pub loop-i-preserved : goal.loop-i-preserved
 loop-i-preserved c =
     let xs = c.args.xs.now in
     let v = c.loop-i.invariant in (
-      words_more c.args.bytes.now xs c.requires.0 c.loop-i.i c.loop-i.at c.loop-i-test.true v.3 v.0
-          (c.put_word.ensures ∙ ap (λ (w : ℕ). written c.loop-i.bytes c.loop-i.at (word_bytes w)) (c.bits.ensures ∙ ap bits_of (x-kept xs c.loop-i.i c.requires.1 c.loop-i-test.true))),
+      words_more c.args.bytes.now xs c.requires.0 c.loop-i.i (4 + 4 * c.loop-i.i) c.loop-i-test.true refl v.0
+          (c.put_word.ensures ∙ ap (λ (w : ℕ). written c.loop-i.bytes (4 + 4 * c.loop-i.i) (word_bytes w)) (c.bits.ensures ∙ ap bits_of (x-kept xs c.loop-i.i c.requires.1 c.loop-i-test.true))),
       c.put_word.auto.bytes ∙ v.1,
-      omega arith,
-      omega arith,
     )
 
 pub returns : goal.returns
-returns c = c.loop-i.invariant.0 ∙ words-all c.args.bytes.now c.args.xs.now c.requires.0 c.loop-i.i (omega arith)
+returns c = c.loop-i.invariant.0 ∙ words-all c.args.bytes.now c.args.xs.now c.requires.0 c.loop-i.i (omega (arith, c.loop-i-test.false, c.loop-i.auto.i-end))

@@ -3,5 +3,4 @@ use Rattle.text.proofs.Pieces.{◌then◌}
 use Rattle.report_text.proofs.lines.put_first_line.Goals as goal
 
 pub returns : goal.returns
-returns c =
-    c.put_mission-sheet.ensures then c.put_labelled-line.ensures then c.put.ensures
+returns c = c.put_mission.ensures then c.put_labelled.ensures then c.put.ensures

@@ -1,12 +1,17 @@
 -- `going::mission_of` meets its contract: by whether there is a record.
-use borrow.Author.Tests.{eq-eqb, ne_eqb}
+use mathlib.Core.Path.{◌≡◌, refl, ◌∙◌}
+use mathlib.Core.Bool.{Bool, true, false, not}
+use Prim.Native.Nat.{ℕ}
+use lib.Dec.{eqb}
+use Rattle.std.specs.Bool.{then_some}
+use Rattle.std.specs.Prelude.{Some, None}
 use Rattle.refusal.specs.Answers.{when◌then◌else◌}
 use Rattle.states.proofs.going.mission_of.Goals as goal
 
-pub returns-then-state-eq0 : goal.returns-then-state-eq0
+none_or : (b : Bool) (m : ℕ) → then_some (not b) m ≡ (when b then None else Some m)
 unfolding when◌then◌else◌
-returns-then-state-eq0 c = rw (eq-eqb _ _ c.if-state-eq0.true)
+none_or true m = refl
+none_or false m = refl
 
 pub returns : goal.returns
-unfolding when◌then◌else◌
-returns c = rw (ne_eqb _ _ c.if-state-eq0.false)
+returns c = c.then_some.ensures ∙ none_or (eqb c.args.state.place 0) c.args.state.mission

@@ -1,5 +1,5 @@
 -- `going::onward` meets its contract: by whether the part completes a record.
-use mathlib.Core.Path.{◌≡◌, refl, sym, ap, ◌∙◌, subst}
+use mathlib.Core.Path.{◌≡◌, refl, sym, ap, ◌∙◌}
 use mathlib.Core.Bool.{Bool}
 use mathlib.Core.List.{List}
 use Prim.Native.Nat.{ℕ, ◌+◌, ◌-◌, ◌≤◌, ◌<◌, min}
@@ -23,13 +23,6 @@ use Rattle.states.specs.Steps.{Standing, erased_on, first_in, behind_in, held_in
 use Rattle.states.proofs.Pieces.{packed-zeros, mission-padded, padded-all}
 use Rattle.states.proofs.Fronts.{curves-within, seven-words, held-long, joined-long, starts_later}
 use Rattle.states.proofs.going.onward.Goals as goal
-
-pub joined-front-requires : goal.joined-front-requires
-joined-front-requires c =
-    let words = c.args.state.words in (
-      subst (λ (n : ℕ). words ≡ packed (take n (unpacked words))) (sym c.least-held.ensures) c.requires.0.front.words_are,
-      omega (arith, c.least-held.ensures),
-    )
 
 -- what the walk is given: the bytes of the state and of the part
 module _ (st : State) (part : List ℕ) (h : Standing st × (st.count + length part ≤ longest)) {held all : ℕ} {front : List ℕ}
@@ -117,39 +110,29 @@ module _ (st : State) (part : List ℕ) (h : Standing st × (st.count + length p
           words = (q ∙ ap packed front-is ∙ packed-zeros seen (56 - length seen)) i;
         })
 
-pub slice_bounds-walk-end : goal.slice_bounds-walk-end
-slice_bounds-walk-end c = all_fits c.args.state c.args.part.now c.requires c.least-held.ensures c.joined-front.ensures c.least-all.ensures
-
-pub mission_on-mission-requires : goal.mission_on-mission-requires
-mission_on-mission-requires c = omega (arith, front_long c.args.state c.args.part.now c.requires c.least-held.ensures c.joined-front.ensures c.least-all.ensures)
-
-pub overflow_sub-size : goal.overflow_sub-size
-overflow_sub-size c =
-    omega (arith, later c.args.state c.args.part.now c.requires c.least-held.ensures c.joined-front.ensures c.least-all.ensures c.walk-w.ensures c.if-size-gt0.true)
-
-pub slice_bounds-after_records-count : goal.slice_bounds-after_records-count
-slice_bounds-after_records-count c =
-    in_part c.args.state c.args.part.now c.requires c.least-held.ensures c.joined-front.ensures c.least-all.ensures c.walk-w.ensures c.if-size-gt0.true
+pub overflow_sub-w : goal.overflow_sub-w
+overflow_sub-w c =
+    omega (arith, later c.args.state c.args.part.now c.requires c.min-held.ensures c.joined-front.ensures c.min-all.ensures c.walk-w.ensures c.if-w-gt0.true)
 
 pub after_records-requires : goal.after_records-requires
 after_records-requires c =
     let st = c.args.state in
     let part = c.args.part.now in
     let stands = c.requires.0 in
-    let inside = within st part c.requires c.least-held.ensures c.joined-front.ensures c.least-all.ensures c.walk-w.ensures in
-    let long = long_is st part c.requires c.least-held.ensures c.joined-front.ensures c.least-all.ensures c.walk-w.ensures in (
+    let inside = within st part c.requires c.min-held.ensures c.joined-front.ensures c.min-all.ensures c.walk-w.ensures in
+    let long = long_is st part c.requires c.min-held.ensures c.joined-front.ensures c.min-all.ensures c.walk-w.ensures in (
       omega (arith, curves-within st.curves st.place stands.records, stands.inside, stands.short),
       omega (arith, stands.inside, stands.short),
       omega (arith, walked_few c.walk-w.ensures),
       omega (arith, inside, long),
     )
 
-pub returns-then-size-gt0 : goal.returns-then-size-gt0
-returns-then-size-gt0 c =
-    with_records c.args.state c.args.part.now c.requires c.least-held.ensures c.joined-front.ensures c.least-all.ensures c.walk-w.ensures c.if-size-gt0.true
+pub returns-then-w-gt0 : goal.returns-then-w-gt0
+returns-then-w-gt0 c =
+    with_records c.args.state c.args.part.now c.requires c.min-held.ensures c.joined-front.ensures c.min-all.ensures c.walk-w.ensures c.if-w-gt0.true
     c.mission_on-mission.ensures c.after_records.ensures
 
 pub returns : goal.returns
 returns c =
-    with_none c.args.state c.args.part.now c.requires c.least-held.ensures c.joined-front.ensures c.least-all.ensures c.walk-w.ensures c.if-size-gt0.false
+    with_none c.args.state c.args.part.now c.requires c.min-held.ensures c.joined-front.ensures c.min-all.ensures c.walk-w.ensures c.if-w-gt0.false
     c.erased_on.ensures c.words_of.ensures

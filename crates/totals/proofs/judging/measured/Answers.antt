@@ -1,5 +1,5 @@
 -- `judging::measured` meets its contract: the hundredths of the length by the pre-image.
-use mathlib.Core.Path.{sym, subst}
+use Rattle.std.proofs.Common.{sym, subst}
 use Rattle.measure.specs.declared.lengths.Length.{Length}
 use Rattle.measure.proofs.LengthSizes.{root_small}
 use Rattle.totals.specs.Hundredths.{Hundredths}
@@ -7,11 +7,11 @@ use Rattle.totals.specs.Steps.{Measurable}
 use Rattle.totals.proofs.Reached.{measurable}
 use Rattle.totals.proofs.judging.measured.Goals as goal
 
-pub length_by-length-requires : goal.length_by-length-requires
-length_by-length-requires c = root_small c.args.p c.args.curve c.requires.1 c.requires.0
+pub length_by-requires : goal.length_by-requires
+length_by-requires c = root_small c.args.p c.args.curve c.requires.1 c.requires.0
 
 pub hundredths-requires : goal.hundredths-requires
-hundredths-requires c = let s = c in subst Measurable (sym c.length_by-length.ensures) (measurable s.args.curve s.args.p s.requires.0 s.requires.1)
+hundredths-requires c = subst Measurable (sym c.length_by.ensures) (measurable c.args.curve c.args.p c.requires.0 c.requires.1)
 
 pub returns : goal.returns
-returns c = subst (λ (l : Length). Hundredths l c.hundredths.result) c.length_by-length.ensures c.hundredths.ensures
+returns c = subst (λ (l : Length). Hundredths l c.hundredths.result) c.length_by.ensures c.hundredths.ensures

@@ -3,4 +3,4 @@ use Rattle.text.proofs.Pieces.{◌then◌}
 use Rattle.totals_text.proofs.pieces.put_count.Goals as goal
 
 pub returns : goal.returns
-returns c = c.put_labelled-end.ensures then c.put.ensures
+returns c = c.put_labelled.ensures then c.put.ensures

@@ -3,8 +3,4 @@ use Rattle.text.proofs.Pieces.{◌then◌}
 use Rattle.totals_text.proofs.pieces.put_counts.Goals as goal
 
 pub returns : goal.returns
-returns c =
-    c.put_count-no.ensures
-    then c.put_count-ph.ensures
-    then c.put_count-pre.ensures
-    then c.put_count.ensures
+returns c = c.put_count.ensures then c.put_count-2.ensures then c.put_count-3.ensures then c.put_count-4.ensures

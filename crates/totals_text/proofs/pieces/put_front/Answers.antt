@@ -3,8 +3,4 @@ use Rattle.text.proofs.Pieces.{◌then◌}
 use Rattle.totals_text.proofs.pieces.put_front.Goals as goal
 
 pub returns : goal.returns
-returns c =
-    c.put_number-blank.ensures
-    then c.put-named.ensures
-    then c.put-colon.ensures
-    then c.put.ensures
+returns c = c.put_number.ensures then c.put.ensures then c.put-2.ensures then c.put-3.ensures

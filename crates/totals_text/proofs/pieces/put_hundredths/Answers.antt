@@ -3,7 +3,4 @@ use Rattle.text.proofs.Pieces.{◌then◌}
 use Rattle.totals_text.proofs.pieces.put_hundredths.Goals as goal
 
 pub returns : goal.returns
-returns c =
-    c.put_number-point.ensures
-    then c.put_labelled-last.ensures
-    then c.put_number.ensures
+returns c = c.put_number.ensures then c.put_labelled.ensures then c.put_number-2.ensures

@@ -1,16 +1,11 @@
--- `pieces::put_said` meets its contract: how many curves, or the refusal.
-use mathlib.Core.Path.{sym, ap}
-use Rattle.text.proofs.Pieces.{◌then◌, writes_same}
+-- `pieces::put_said` meets its contract: how many curves.
+use Rattle.std.proofs.Common.{sym, ap, Result}
+use Rattle.refusal.specs.declared.Fault.{Fault}
+use Rattle.refusal.specs.Answers.{answer_at}
 use Rattle.sheet.specs.declared.Checked.{Checked}
-use Rattle.sheet.specs.Promise.{answer_of_checked}
+use Rattle.text.proofs.Pieces.{◌then◌, writes_same}
 use Rattle.totals_text.specs.Texts.{said}
 use Rattle.totals_text.proofs.pieces.put_said.Goals as goal
 
-pub returns-in-Sheet : goal.returns-in-Sheet
-returns-in-Sheet c =
-    writes_same (ap (λ (x : Checked). said (answer_of_checked x)) (sym c.in-Sheet.is))
-    (c.put_number-end.ensures
-    then c.put.ensures)
-
-pub returns-in-Refused : goal.returns-in-Refused
-returns-in-Refused c = let p = c in writes_same (ap (λ (x : Checked). said (answer_of_checked x)) (sym p.in-Refused.is)) p.put_refused.ensures
+pub returns-in-Ok : goal.returns-in-Ok
+returns-in-Ok c = writes_same (ap (λ (r : Result Checked Fault). said (answer_at r)) (sym c.in-Ok.is)) (c.put_number.ensures then c.put.ensures)

@@ -1,11 +1,6 @@
--- What the loops of `numbers::arguments` keep.
-use mathlib.Core.Path.{◌≡◌}
-use Prim.Native.Nat.{◌-◌, ◌≤◌}
-use lib.ListN.{length}
+-- What the loop of `numbers::arguments` keeps.
+use Rattle.std.proofs.Common.{◌≤◌, length}
 use Rattle.trials.proofs.numbers.arguments.Given as goal
 
-abbrev pub invariant-loop-at : goal.invariant-loop-at
-invariant-loop-at l = (length l.out ≡ length l.initial.out) × (l.at ≤ length l.text)
-
-abbrev pub decreases-loop-at : goal.decreases-loop-at
-decreases-loop-at l = length l.text - l.at
+abbrev pub invariant-loop-word : goal.invariant-loop-word
+invariant-loop-word l = l.count ≤ length l.out

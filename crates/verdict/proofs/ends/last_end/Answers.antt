@@ -1,26 +1,28 @@
--- `ends::last_end` meets its contract, by the kind of curve.
-use mathlib.Core.Path.{sym, subst}
-use lib.Dec.{lit≤}
-use Rattle.whole.specs.Number.{Tells}
+-- `ends::last_end` meets its contract: the last leg is the first of the legs in the other order.
+use Rattle.std.proofs.Common.{zero, suc}
 use Rattle.pair.specs.Pairs.{AllWithin}
+use Rattle.pair.proofs.Parts.{zero-within}
 use Rattle.curve.specs.declared.Legs.{Legs}
+use Rattle.curve.specs.declared.Legs.TheVariants.{Cubic, Quintic}
 use Rattle.curve.specs.Steps.{legs_of}
 use Rattle.curve.specs.Sizes.{leg_reach}
-use Rattle.verdict.specs.Steps.{LastEnd}
+use Rattle.verdict.specs.Steps.{reversed}
 use Rattle.verdict.proofs.ends.last_end.Goals as goal
 
-pub end_divides-requires : goal.end_divides-requires
-end_divides-requires c =
-    let h = subst (λ (l : Legs). AllWithin leg_reach (legs_of l)) c.in-Cubic.is c.requires in
-    (h 2, h 1, lit≤ tt)
+small : (l : Legs) → AllWithin leg_reach (legs_of l) → AllWithin leg_reach (legs_of (reversed l))
+small (Cubic d0 d1 d2) h zero = h 2
+small (Cubic d0 d1 d2) h (suc zero) = h 1
+small (Cubic d0 d1 d2) h (suc (suc zero)) = h 0
+small (Cubic d0 d1 d2) h (suc (suc (suc k))) = zero-within
+small (Quintic d0 d1 d2 d3 d4) h zero = h 4
+small (Quintic d0 d1 d2 d3 d4) h (suc zero) = h 3
+small (Quintic d0 d1 d2 d3 d4) h (suc (suc zero)) = h 2
+small (Quintic d0 d1 d2 d3 d4) h (suc (suc (suc zero))) = h 1
+small (Quintic d0 d1 d2 d3 d4) h (suc (suc (suc (suc zero)))) = h 0
+small (Quintic d0 d1 d2 d3 d4) h (suc (suc (suc (suc (suc k))))) = zero-within
 
-pub end_divides-requires-in-Quintic : goal.end_divides-requires-in-Quintic
-end_divides-requires-in-Quintic c =
-    let h = subst (λ (l : Legs). AllWithin leg_reach (legs_of l)) c.in-Quintic.is c.requires in
-    (h 4, h 3, lit≤ tt)
+pub first_end-requires : goal.first_end-requires
+first_end-requires c = rw c.reversed.ensures (small c.args.legs c.requires)
 
-pub returns-in-Cubic : goal.returns-in-Cubic
-returns-in-Cubic c = subst (λ (l : Legs). Tells (LastEnd l) c.end_divides.result) (sym c.in-Cubic.is) c.end_divides.ensures
-
-pub returns-in-Quintic : goal.returns-in-Quintic
-returns-in-Quintic c = subst (λ (l : Legs). Tells (LastEnd l) c.end_divides-in-Quintic.result) (sym c.in-Quintic.is) c.end_divides-in-Quintic.ensures
+pub returns : goal.returns
+returns c = rw c.reversed.ensures at c.first_end.ensures

@@ -1,10 +1,7 @@
 -- `preimages::lead_positive` meets its contract: the first coefficient from above that is not zero is the lead.
-use mathlib.Core.Bool.{Bool, true, false}
-use Prim.Native.Nat.{ℕ, zero, suc}
-use native.Mathlib.Omega.{arith}
+use Rattle.std.proofs.Common.{Bool, true, false, ℕ, zero, suc, arith}
 use Rattle.whole.specs.Coefficients.{at}
 use Rattle.whole.specs.Number.{FirstPositive, Tells}
-use Rattle.whole.proofs.Flags.{told, untold}
 use Rattle.poly.specs.Terms.{Above, Top}
 use Rattle.poly.proofs.Top.{length_above, above_lowered}
 use Rattle.pair.specs.Pairs.{pairs}
@@ -13,9 +10,6 @@ use Rattle.verdict.specs.declared.Quadratic.{Quadratic}
 use Rattle.verdict.specs.Verdicts.{quadratic, LeadKept}
 use Rattle.verdict.proofs.Turned.{lead_of_lem}
 use Rattle.verdict.proofs.preimages.lead_positive.Goals as goal
-use Rattle.verdict.proofs.preimages.lead_positive.Tie as tie
-use Rattle.verdict.proofs.preimages.lead_positive.Reads as reads
-use Rattle.verdict.proofs.preimages.lead_positive.Lts as at
 
 -- the flag on the m-th coefficient is the flag on w, where m is the highest power
 carried : (w : Quadratic) (m : ℕ) (flag : Bool) → Top pairs (quadratic w) m → Tells (FirstPositive (at pairs (quadratic w) m).re (at pairs (quadratic w) m).im) flag → Tells (LeadKept (quadratic w)) flag
@@ -31,28 +25,21 @@ constant w false a h = λ l. by l.power l.positive
     by zero p = h p
     by (suc m) p = first_some p (a (suc m) (omega arith))
 
-module _ (c : at.Else1 tie.the-claims reads.Pre reads.Post) where
-  abbrev w : Quadratic
-  w = c.args.w
-
-  above-1 : Above pairs (at pairs (quadratic w)) 1
-  above-1 = above_lowered pairs (length_above pairs (quadratic w) 2 (omega arith)) (told c.is_zero.result c.is_zero.ensures c.if-not-is_zero.false-raw)
+above-2 : (w : Quadratic) → Above pairs (at pairs (quadratic w)) 2
+above-2 w = length_above pairs (quadratic w) 2 (omega arith)
 
 pub returns-then-not-is_zero : goal.returns-then-not-is_zero
 returns-then-not-is_zero c =
-    let v = c.args.w in
-    carried v 2 c.first_positive.result
-    (record { lead = untold c.is_zero.result c.is_zero.ensures c.if-not-is_zero.true-raw; above = length_above pairs (quadratic v) 2 (omega arith) })
-    c.first_positive.ensures
+    let w = c.args.w in carried w 2 c.first_positive.result (record { lead = c.if-not-is_zero.ensures; above = above-2 w }) c.first_positive.ensures
 
 pub returns-then-not-is_zero-2 : goal.returns-then-not-is_zero-2
 returns-then-not-is_zero-2 c =
-    carried (w c.before.before.before) 1 c.first_positive-then-not-is_zero-2.result
-    (record { lead = untold c.is_zero-2.result c.is_zero-2.ensures c.if-not-is_zero-2.true-raw; above = above-1 c.before.before.before })
-    c.first_positive-then-not-is_zero-2.ensures
+    let w = c.args.w in
+    let f = c.first_positive-then-not-is_zero-2 in
+    carried w 1 f.result (record { lead = c.if-not-is_zero-2.ensures; above = above_lowered pairs (above-2 w) c.if-not-is_zero.ensures }) f.ensures
 
-pub returns : goal.returns
-returns c =
-    constant (w c.before.before.before) c.first_positive-2.result
-    (above_lowered pairs (above-1 c.before.before.before) (told c.is_zero-2.result c.is_zero-2.ensures c.if-not-is_zero-2.false-raw))
-    c.first_positive-2.ensures
+pub returns-else-not-is_zero-2 : goal.returns-else-not-is_zero-2
+returns-else-not-is_zero-2 c =
+    let w = c.args.w in
+    let f = c.first_positive-else-not-is_zero-2 in
+    constant w f.result (above_lowered pairs (above_lowered pairs (above-2 w) c.if-not-is_zero.ensures) c.if-not-is_zero-2.ensures) f.ensures

@@ -16,16 +16,10 @@ use Rattle.root.specs.declared.Octic.{Octic}
 use Rattle.root.specs.Promise.{octic, Sized}
 use Rattle.verdict.proofs.Contents.{content-sized}
 use Rattle.verdict.proofs.roots.content.Goals as goal
-use Rattle.verdict.proofs.roots.content.Lts as at
-use Rattle.verdict.proofs.roots.content.Reads as reads
-use Rattle.verdict.proofs.roots.content.Tie as tie
 
 module _ (c : goal.After-gcd_all) where
-  abbrev o : at.Start tie.the-claims reads.Pre reads.Post
-  o = c.before.before.before
-
   abbrev n : Octic
-  n = o.args.n
+  n = c.args.n
 
   abbrev g : ℕ
   g = c.gcd_all.result
@@ -34,14 +28,14 @@ module _ (c : goal.After-gcd_all) where
   bits x = to_z w64 (of_z w64 x)
 
   listed : bits n.m0 ∷ bits n.m1 ∷ bits n.m2 ∷ bits n.m3 ∷ bits n.m4 ∷ bits n.m5 ∷ bits n.m6 ∷ bits n.m7 ∷ bits n.m8 ∷ [] ≡ octic n
-  listed i = let s = o.requires.0 in
+  listed i = let s = c.requires.0 in
       read_back tt (s 0) i ∷ read_back tt (s 1) i ∷ read_back tt (s 2) i ∷ read_back tt (s 3) i ∷ read_back tt (s 4) i ∷ read_back tt (s 5) i ∷ read_back tt (s 6) i ∷ read_back tt (s 7) i ∷ read_back tt (s 8) i ∷ []
 
   greatest : Greatest wholes (octic n) (pos g)
   greatest = subst (λ (p : List ℤ). Greatest wholes p (pos g)) listed c.gcd_all.ensures
 
   sizes : (0 < g) × (g ≤ norm_size)
-  sizes = content-sized (octic n) g o.requires.0 o.requires.1 greatest
+  sizes = content-sized (octic n) g c.requires.0 c.requires.1 greatest
 
   small : Sized (pos g)
   small = record { size = sizes.1 }

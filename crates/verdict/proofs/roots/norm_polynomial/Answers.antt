@@ -13,27 +13,17 @@ use Rattle.curve.specs.Steps.{leg_powers}
 use Rattle.verdict.proofs.Lengthening.{Slight, parts_slight, slight_small, square-sized}
 use Rattle.verdict.proofs.roots.norm_polynomial.Goals as goal
 
--- ---- with the first coordinates
-module _ (c : goal.After-reals) where
-  re_slight : Slight (quartic c.reals.result)
-  re_slight = subst Slight (sym c.reals.ensures) (parts_slight c.args.e c.requires).0
-
 pub square-requires : goal.square-requires
-square-requires c = slight_small (quartic c.reals.result) (re_slight c)
-
-module _ (c : goal.After-imaginaries) where
-  im_slight : Slight (quartic c.imaginaries.result)
-  im_slight = subst Slight (sym c.imaginaries.ensures) (parts_slight c.args.e c.requires).1
+square-requires c = slight_small (quartic c.reals.result) (subst Slight (sym c.reals.ensures) (parts_slight c.args.e c.requires).0)
 
 pub square-requires-2 : goal.square-requires-2
-square-requires-2 c = slight_small (quartic c.imaginaries.result) (im_slight c)
+square-requires-2 c = slight_small (quartic c.imaginaries.result) (subst Slight (sym c.imaginaries.ensures) (parts_slight c.args.e c.requires).1)
 
 pub added-requires : goal.added-requires
 added-requires c =
-    let i = c.before in
-    let r = i.before.before in (
-      λ k. subst (Within norm_size) (i.square.ensures k) (square-sized r.reals.result (re_slight r) k),
-      λ k. subst (Within norm_size) (c.square-2.ensures k) (square-sized i.imaginaries.result (im_slight i) k),
+    let (re, im) = parts_slight c.args.e c.requires in (
+      λ k. subst (Within norm_size) (c.square.ensures k) (square-sized c.reals.result (subst Slight (sym c.reals.ensures) re) k),
+      λ k. subst (Within norm_size) (c.square-2.ensures k) (square-sized c.imaginaries.result (subst Slight (sym c.imaginaries.ensures) im) k),
     )
 
 pub returns : goal.returns
