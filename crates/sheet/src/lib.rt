@@ -12,7 +12,8 @@
 
 mod walks;
 
-ghost use Rattle.std.specs.Prelude.{◌≡◌};
+ghost use Rattle.std.specs.Prelude.{◌≡◌, length, replicate};
+ghost use Rattle.record.specs.Records.{erased};
 ghost use Rattle.sheet.specs.Survey.{survey, mission_of, is_other};
 ghost use Rattle.sheet.specs.Promise.{Checks, Reads, Locates, FindsIn, StartsFor, Erases, Appends};
 
@@ -93,7 +94,13 @@ pub fn find<'a>(sheet: &'a [u8], mission: u16, number: usize) -> &'a [u8]
     }
 }
 
-// Writes a mission's header and erases the rest.
+fn erase_all(sheet: &mut [u8])
+    ensures { sheet.new ≡ replicate (length sheet.old) erased }
+{
+    sheet.fill(ERASED);
+}
+
+// Erases the whole sheet and writes a mission's header over its first bytes: to fill from the seventh byte on was slower.
 pub fn start(sheet: &mut [u8], mission: u16) -> Result<(), Fault>
     ensures { StartsFor sheet.old mission sheet.new result }
 {
@@ -104,8 +111,8 @@ pub fn start(sheet: &mut [u8], mission: u16) -> Result<(), Fault>
     if sheet.len() < size {
         return Err(Refusal::Room.into());
     }
+    erase_all(sheet);
     put_header(&mut sheet[..size], mission);
-    sheet[size..].fill(ERASED);
     Ok(())
 }
 
@@ -116,7 +123,7 @@ pub fn erase(sheet: &mut [u8]) -> Result<(), Fault>
     if sheet.len() > LONGEST {
         return Err(Refusal::TooLong.into());
     }
-    sheet.fill(ERASED);
+    erase_all(sheet);
     Ok(())
 }
 

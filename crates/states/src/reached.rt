@@ -86,5 +86,6 @@ fn is_overfull(state: State) -> bool
 pub fn is_reached(state: State) -> bool
     ensures { Tells (Reached (state)) result }
 {
-    state.ended <= 1 && (is_overfull(state) || is_standing(state))
+    // Standing states first: most are, and an overfull one fails their first test, that of the count.
+    state.ended <= 1 && (is_standing(state) || is_overfull(state))
 }

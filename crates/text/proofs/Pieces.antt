@@ -1,12 +1,16 @@
 -- Pieces of text that are written one after another.
+--   writes_full           behind a text that did not fit
 --   writes_none, _then_   nothing; one piece and then another
 --   writes_same           the same piece under another name
 --   sign_below, sign_above   when there is a sign
-use Rattle.std.proofs.Common.{◌≡◌, refl, sym, ◌∙◌, subst, List, [], ◌++◌, append_assoc, append-nil, ℕ, ℤ, pos, negsuc, true, false, rules}
+use Rattle.std.proofs.Common.{◌≡◌, refl, sym, ◌∙◌, subst, List, [], ◌++◌, append_assoc, append-nil, ℕ, ◌≤◌, ◌<◌, arith, length, take, length-append, Option, MatchOption, None, ℤ, pos, negsuc, true, false, rules}
 use lib.Signed.{lt_z}
 use Rattle.text.specs.declared.Text.{Text}
 use Rattle.text.specs.Texts.{bytes, sign}
 use Rattle.text.specs.Steps.{Holds, Writes}
+
+pub writes_full : (t : Text) (piece : List ℕ) → t.len ≡ None → Writes t piece t
+writes_full t piece e = record { same_area = refl; same_length = refl; then_holds = λ held h. rw e (omega (arith, subst (λ (k : Option ℕ). MatchOption k (length t.area.now < length held) (λ n. (n ≡ length held) × (n ≤ length t.area.now) × (take n t.area.now ≡ held))) e h, length-append held piece)) }
 
 pub writes_none : (t : Text) → Writes t [] t
 writes_none t = record { same_area = refl; same_length = refl; then_holds = λ held h. subst (Holds t) (sym (append-nil held)) h }

@@ -128,12 +128,15 @@ fn ask<W: Write>(to: &mut W, call: Call, words: Words, area: &mut [u8]) -> Resul
     }
 }
 
-// Every call's line.
+// Every call's line, handed over at once: piece by piece, each piece would be a call of the system. The lines have 799 bytes.
 fn say_calls<W: Write>(to: &mut W) -> io::Result<()> {
+    let mut text = [0u8; 1024];
+    let mut rest: &mut [u8] = &mut text;
     for call in &CALLS {
-        write!(to, "\n{call}")?;
+        write!(rest, "\n{call}")?;
     }
-    Ok(())
+    let end = text.iter().position(|b| *b == 0).unwrap_or(text.len());
+    to.write_all(&text[..end])
 }
 
 // The call whose name is the first word that is left.

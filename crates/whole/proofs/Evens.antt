@@ -1,7 +1,8 @@
 -- Factors of 2: the zeros at a number's end, and what they do to common divisors.
 --   zeros n                how many zeros stand at the end of n's binary digits
 --   zeros-end              a number other than 0 is odd without them, and with them again the number
---   odd_part_once          a number has one odd part
+--   odd_part_le            the odd part of a number is no larger
+--   odd_part_once          and there is one
 --   Both d x y             d divides both; both_turned: in whatever order
 --   Shared g x y           g has just the divisors that x and y have in common; shared_greatest, greatest_shared: it is the greatest common divisor
 --   shared-turned          the order of the two does not matter
@@ -19,7 +20,7 @@ use native.Mathlib.Omega.{arith}
 use lib.Arith.{lt-one}
 use lib.Count.{count_trailing_zeros, under}
 use lib.IntN.{ℤ, pos, negsuc, neg_ℤ, nat_abs, ◌+ℤ◌, ◌*ℤ◌, *ℤ_comm}
-use lib.Pow.{pow-add, shl-shr}
+use lib.Pow.{pow-add, pow_pos, shl-shr}
 use Rattle.whole.specs.Coefficients.{Divides, Greatest}
 use Rattle.whole.specs.Number.{wholes}
 use Rattle.whole.specs.Steps.{OddPart}
@@ -62,6 +63,13 @@ zeros-end n h l =
     let f = ends 64 n h l in
     let e : n / 2 ^ zeros n ≡ f.0 = ap (λ (x : ℕ). x / 2 ^ zeros n) (sym f.3) ∙ shl-shr f.0 (zeros n) in
     record { below = f.1; odd = ap (λ (x : ℕ). x % 2) e ∙ f.2; is = ap (λ (x : ℕ). x * 2 ^ zeros n) e ∙ f.3 }
+
+pub odd_part_le : {n r : ℕ} → OddPart n r → r ≤ n
+odd_part_le {n} {r} k = by (2 ^ k.power) (pow_pos k.power) k.is
+  where
+    by : (q : ℕ) → 0 < q → r * q ≡ n → r ≤ n
+    by zero l e = omega arith
+    by (suc q) l e = omega arith
 
 pub odd_part_once : {n r s : ℕ} → OddPart n r → OddPart n s → r ≡ s
 odd_part_once {n} {r} {s} h k = by h.power k.power (h.is ∙ sym k.is)
